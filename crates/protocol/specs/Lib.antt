@@ -1,0 +1,15 @@
+pub mod Bounds
+pub mod Elements
+pub mod Tables
+pub mod Order
+pub mod Answers
+pub mod Ask
+pub mod Advance
+pub mod Deliver
+pub mod Faults
+pub mod Events
+pub mod Settle
+pub mod Demands
+pub mod Lines
+pub mod Starred
+pub mod Example
