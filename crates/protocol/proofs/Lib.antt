@@ -1,1 +1,14 @@
+pub mod Look
+pub mod Neat
+pub mod Numbers
+pub mod Content
+pub mod Changes
+pub mod Losses
+pub mod Whole
+pub mod Few
+pub mod Shows
+pub mod Tells
+pub mod Moves
+pub mod Advances
+pub mod Deliveries
 pub mod Examples

@@ -29,8 +29,8 @@ worked c =
     case (c .before) (c .events) (c .n) (lines (c .events) (c .before)) (settle (c .n) zeroTally (run (c .events) (c .before)) .tally)
     (lines (stepsBy apply (c .n) (run (c .events) (c .before))) (run (c .events) (c .before)))
 
-abbrev pub letters : ℕ → Name
-letters n = nameOf (replicate n 97)
+abbrev pub nameOfLength : ℕ → Name
+nameOfLength n = nameOf (replicate n 97)
 
 -- steps, replies 1, replies 2 to 6
 abbrev pub counts : ℕ → ℕ → ℕ → Tally
@@ -43,8 +43,8 @@ gave n = setPartition (fresh 2) 0 (withLast n (partition (fresh 2) 0))
 unfoldable pub starred : List Case
 starred =
     -- "Name of 8 bytes* accepted, 9* gives 2."
-    case (fresh 2) (Creating 0 1 (letters 8) 1 5 ∷ []) 0 (line 0 1 0 ∷ []) zeroTally []
-    ∷ case (fresh 2) (Creating 0 1 (letters 9) 1 5 ∷ []) 0 (line 2 0 0 ∷ []) zeroTally []
+    case (fresh 2) (Creating 0 1 (nameOfLength 8) 1 5 ∷ []) 0 (line 0 1 0 ∷ []) zeroTally []
+    ∷ case (fresh 2) (Creating 0 1 (nameOfLength 9) 1 5 ∷ []) 0 (line 2 0 0 ∷ []) zeroTally []
     -- "Partition count 4* accepted, 0* and 5* give 1."
     ∷ case (fresh 2) (Opening 4 ∷ []) 0 (line 0 0 0 ∷ []) zeroTally []
     ∷ case (fresh 2) (Opening 0 ∷ []) 0 (line 1 0 0 ∷ []) zeroTally []
