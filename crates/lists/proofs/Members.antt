@@ -1,13 +1,15 @@
 -- The members of a list, and of what is kept of it.
 use mathlib.Core.Bool.{Bool, false, not, true}
-use mathlib.Core.List.{List, List·Memᴰ, List·Memᴰ·cases-cons, List·Memᴰ·eq-of-singleton, List·Memᴰ·head, List·Memᴰ·not-nil, List·Memᴰ·tail, [], _++_, _∷_}
+use mathlib.Core.List.{List, List·Memᴰ, List·Memᴰ·cases-cons, List·Memᴰ·eq-of-singleton, List·Memᴰ·head, List·Memᴰ·not-nil, List·Memᴰ·tail, Memᴰ·append-left, Memᴰ·append-right, [], _++_, _∷_, map}
 use mathlib.Core.Logic.{_⊎_, inl, inr}
 use mathlib.Core.Path.{_∙_, _≡_, ap, refl}
-use Prim.Native.Nat.{_+_, _≤_}
+use Prim.Native.Nat.{_+_, _<_, _≤_, suc, zero, ℕ}
 use native.Mathlib.Nat.{le-refl}
 use native.Mathlib.Omega.{arith}
+use lib.Dec.{eqb}
 use lib.ListN.{length}
-use Rattle.lists.specs.Lists.{all, keep, one, without}
+use borrow.Author.Tests.{eqb-false, eqb-true}
+use Rattle.lists.specs.Lists.{all, each, keep, one, without}
 use Rattle.lists.proofs.Keep.{keep-cons-other, keep-cons-same, tally}
 use Rattle.lists.proofs.Tests.{and-left, and-right, both-true, byTest, hit, hit-le, no-true, not-true}
 
@@ -135,3 +137,28 @@ append-mem (y ∷ l) k x i = step (λ j. append-mem l k x j) (List·Memᴰ·case
     step : (List·Memᴰ x (l ++ k) → List·Memᴰ x l ⊎ List·Memᴰ x k) → (x ≡ y) ⊎ List·Memᴰ x (l ++ k) → List·Memᴰ x (y ∷ l) ⊎ List·Memᴰ x k
     step rest (inl e) = inl (List·Memᴰ·head e)
     step rest (inr j) = elim (rest j) [ inl a ↦ inl (List·Memᴰ·tail a) | inr b ↦ inr b ]
+
+-- a test of lists put together
+module _ {A : Type 0} (f : A → Bool) where
+  pub all-append : (l k : List A) → all f l ≡ true → all f k ≡ true → all f (l ++ k) ≡ true
+  unfolding all
+  all-append [] k a b = b
+  all-append (x ∷ l) k a b = both-true (and-left (f x) _ a) (all-append l k (and-right (f x) _ a) b)
+
+  pub all-each : (k : ℕ) (g : ℕ → List A) → ((i : ℕ) → all f (g i) ≡ true) → all f (each k g) ≡ true
+  unfolding each all
+  all-each zero g h = refl
+  all-each (suc k) g h = all-append (each k g) (g k) (all-each k g h) (h k)
+
+  pub all-map : {B : Type 0} (u : B → A) (l : List B) → ((x : B) → f (u x) ≡ true) → all f (map u l) ≡ true
+  unfolding all
+  all-map u [] h = refl
+  all-map u (x ∷ l) h = both-true (h x) (all-map u l h)
+
+pub each-mem : {A : Type 0} (k : ℕ) (f : ℕ → List A) (i : ℕ) (x : A) → i < k → List·Memᴰ x (f i) → List·Memᴰ x (each k f)
+unfolding each
+each-mem zero f i x h j = absurd (omega arith)
+each-mem (suc k) f i x h j =
+    byTest (eqb i k)
+    (λ t. Memᴰ·append-right (each k f) (rw (eqb-true i k t) at j))
+    (λ t. Memᴰ·append-left (f k) (each-mem k f i x (let n = eqb-false i k t in omega arith) j))

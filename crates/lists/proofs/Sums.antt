@@ -1,13 +1,13 @@
 -- Sums over numbers, and lists counted by their numbers.
 use mathlib.Core.List.{List, List·Memᴰ, List·Memᴰ·head, List·Memᴰ·tail, [], _∷_}
-use mathlib.Core.Path.{_≡_, refl, sym}
+use mathlib.Core.Path.{_∙_, _≡_, ap, refl, sym}
 use Prim.Native.Nat.{_*_, _+_, _<_, _≤_, suc, zero, ℕ}
 use native.Mathlib.Nat.{le-of-eq, le-refl}
 use native.Mathlib.Omega.{arith}
 use lib.Dec.{eqb}
-use lib.ListN.{length}
+use lib.ListN.{getD, length}
 use borrow.Author.Tests.{eqb-false, eqb-true, ne-eqb}
-use Rattle.lists.specs.Lists.{keep}
+use Rattle.lists.specs.Lists.{keep, total}
 use Rattle.lists.proofs.Keep.{tally}
 use Rattle.lists.proofs.Tests.{byTest, hit}
 
@@ -28,10 +28,10 @@ sum-lt (suc k) f g h j l lt =
     (λ t. let e : f k < g k = rw (eqb-true j k t) at lt in let a = sum-le k f g (λ i l. h i) in omega arith)
     (λ t. let n = eqb-false j k t in let a = sum-lt k f g h j (omega arith) lt in let b = h k in omega arith)
 
-pub sum-times : (k c : ℕ) (f : ℕ → ℕ) → sum k (λ i. 8 * f i) ≡ 8 * sum k f
+pub sum-times : (k : ℕ) (f : ℕ → ℕ) → sum k (λ i. 8 * f i) ≡ 8 * sum k f
 unfolding sum
-sum-times zero c f = refl
-sum-times (suc k) c f = let a = sum-times k c f in omega arith
+sum-times zero f = refl
+sum-times (suc k) f = let a = sum-times k f in omega arith
 
 pub sum-add : (k : ℕ) (f g : ℕ → ℕ) → sum k (λ i. f i + g i) ≡ sum k f + sum k g
 unfolding sum
@@ -102,3 +102,36 @@ by-number-ge number k (x ∷ l) h =
     let c = sum-hit-one k (number x) (h x (List·Memᴰ·head refl)) in
     let d = by-number-ge number k l (λ y i. h y (List·Memᴰ·tail i)) in
     omega arith
+
+-- a total over the elements is a sum over their places; d stands past the end
+sum-first : (k : ℕ) (g : ℕ → ℕ) → sum (suc k) g ≡ g 0 + sum k (λ i. g (suc i))
+unfolding sum
+sum-first zero g = omega arith
+sum-first (suc k) g = let a : sum k g + g k ≡ g 0 + sum k (λ i. g (suc i)) = sum-first k g in omega arith
+
+module _ {A : Type 0} (f : A → ℕ) (d : A) (z : f d ≡ 0) where
+  pub total-sum : (l : List A) (k : ℕ) → length l ≤ k → sum k (λ i. f (getD l i d)) ≡ total f l
+  unfolding sum total
+  total-sum [] zero h = refl
+  total-sum [] (suc k) h = let a = total-sum [] k (omega arith) in omega arith
+  total-sum (x ∷ l) zero h = absurd (omega arith)
+  total-sum (x ∷ l) (suc k) h = sum-first k (λ i. f (getD (x ∷ l) i d)) ∙ ap (λ (t : ℕ). f x + t) (total-sum l k (omega arith))
+
+  pub total-zero : (l : List A) → total f l ≡ 0 → (i : ℕ) → f (getD l i d) ≡ 0
+  unfolding total
+  total-zero [] h i = z
+  total-zero (x ∷ l) h zero = omega arith
+  total-zero (x ∷ l) h (suc i) = total-zero l (omega arith) i
+
+  pub total-some : (l : List A) → (total f l ≡ 0 → ⊥) → (i : ℕ) × (i < length l) × (f (getD l i d) ≡ 0 → ⊥)
+  unfolding total
+  total-some [] h = absurd (h refl)
+  total-some (x ∷ l) h =
+      byTest (eqb (f x) 0)
+      (λ t. let r = total-some l (λ e. h (let a = eqb-true (f x) 0 t in omega arith)) in (suc (r .0), omega (arith, r .1), r .2))
+      (λ t. (0, omega arith, eqb-false (f x) 0 t))
+
+  pub total-most : (b : ℕ) (l : List A) → ((i : ℕ) → f (getD l i d) ≤ b) → total f l ≤ length l * b
+  unfolding total
+  total-most b [] h = omega arith
+  total-most b (x ∷ l) h = let a = total-most b l (λ i. h (suc i)) in let c = h 0 in omega arith

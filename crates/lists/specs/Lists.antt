@@ -1,7 +1,7 @@
 -- Tests and changes of lists, over any type of elements.
 use mathlib.Core.Bool.{Bool, true, false, not, _&&_, _||_}
 use mathlib.Core.List.{List, [], _∷_, _++_}
-use Prim.Native.Nat.{ℕ, suc, zero}
+use Prim.Native.Nat.{ℕ, suc, zero, _+_}
 
 -- one of two, by a test
 abbrev pub pick : {A : Type 0} → Bool → A → A → A
@@ -68,3 +68,8 @@ module _ {A : Type 0} where
   unfoldable pub mapFrom : (ℕ → A → A) → ℕ → List A → List A
   mapFrom u i [] = []
   mapFrom u i (x ∷ l) = u i x ∷ mapFrom u (suc i) l
+
+  -- the sum of a count over the elements
+  unfoldable pub total : (A → ℕ) → List A → ℕ
+  total f [] = 0
+  total f (x ∷ l) = f x + total f l

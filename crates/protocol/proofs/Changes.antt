@@ -238,12 +238,12 @@ module _ (m : Model) (p : ℕ) (s : Shape m) (h : partition m p .up ≡ true) (r
   grown-view v = records-view m p (r .number) s h (λ l. l ++ r ∷ []) v (r ∷ [])
       (keep-snoc (recordBears (r .number)) (partition m p .records) r ∙ rw (v .records, eqb-same (r .number)) refl)
 
-pub raised-taken : (x : Partition) → claimed (raised x) ≡ claimed x
+pub raised-claimed : (x : Partition) → claimed (raised x) ≡ claimed x
 unfolding claimed
-raised-taken x = refl
+raised-claimed x = refl
 
 pub raised-neat : (x : Partition) → x .last < 4294967295 → Neat x → Neat (raised x)
-raised-neat x h n = record { names = n .names; keys = n .keys; records = n .records; backpointers = n .backpointers; claimed = rw (raised-taken x) (n .claimed); last = h }
+raised-neat x h n = record { names = n .names; keys = n .keys; records = n .records; backpointers = n .backpointers; claimed = rw (raised-claimed x) (n .claimed); last = h }
 
 pub isNone-true : {A : Type 0} (l : List A) → isNone l ≡ true → l ≡ []
 isNone-true [] e = refl

@@ -1,10 +1,10 @@
 -- The starred cases and the worked rehearsal, computed.
 use mathlib.Core.Path.{_≡_, refl}
 use mathlib.Core.List.{map}
-use Rattle.lists.specs.Lists.{every, below, each, all, any, apart, keep, without, mapIf, mapFrom}
+use Rattle.lists.specs.Lists.{every, below, each, all, any, apart, keep, without, mapIf, mapFrom, total}
 use Rattle.names.specs.Names.{goodName, sameBytes, sameName, nameOf}
 use Rattle.names.specs.Text.{bytes}
-use Rattle.protocol.specs.Tables.{noPartition, partition, queue, claimed, setPartition, setQueue, setUp, changeEntries, changeBackpointers, changeRecords, giveNumber, send, freshPartition, fresh, total, totals}
+use Rattle.protocol.specs.Tables.{noPartition, partition, queue, claimed, setPartition, setQueue, setUp, changeEntries, changeBackpointers, changeRecords, giveNumber, send, freshPartition, fresh, totals}
 use Rattle.protocol.specs.Order.{inRange, partitionInRange, O1, O2, O3, O4, O5, O6, O7, givenBy, numbersGiven, matches, inOrder}
 use Rattle.protocol.specs.Answers.{check}
 use Rattle.protocol.specs.Ask.{askTables, ask, unlink}

@@ -9,6 +9,14 @@ pub mod Few
 pub mod Shows
 pub mod Tells
 pub mod Moves
+pub mod Verdicts
+pub mod Oldest
 pub mod Advances
 pub mod Deliveries
+pub mod Refusals
+pub mod Kept
+pub mod Applied
+pub mod Bound
+pub mod Progress
+pub mod Settling
 pub mod Examples

@@ -11,8 +11,8 @@ use lib.ListN.{getD, length, length-replicate, replicate}
 use borrow.Author.Tests.{eqb-true}
 use Rattle.lists.specs.Lists.{keep, mapFrom, mapIf, one, pick}
 use Rattle.protocol.specs.Demands.{backpointerBears}
-use Rattle.protocol.specs.Elements.{Backpointer, Entry, Message, Ready, Record, Request, isSent}
-use Rattle.protocol.specs.Faults.{between, drained, lose, relapsed, touches}
+use Rattle.protocol.specs.Elements.{Backpointer, Entry, Message, Ready, Record, Request}
+use Rattle.protocol.specs.Faults.{between, drained, fallsWith, lose, relapsed, touches}
 use Rattle.protocol.specs.Tables.{Model, Partition, claimed, entryBears, fresh, freshPartition, inStage, noPartition, partition, queue, recordBears}
 use Rattle.lists.proofs.Keep.{keep-mapIf, length-keep-mapIf}
 use Rattle.lists.proofs.Tests.{and-left, and-right, byTest, eqb-same, no-true}
@@ -118,52 +118,49 @@ unfolding keep mapIf
 all-ready [] f h = refl
 all-ready (r ∷ l) f h = rw (h r) (all-ready l f h)
 
-abbrev pub fallen : ℕ → ℕ → Record → Bool
-fallen p q r = eqb q p || isSent (r .stage) && eqb (r .partition) p
-
-pub crash-down : (m : Model) (p : ℕ) → AtRest (lose (fallen p) (touches p) m) p
+pub crash-down : (m : Model) (p : ℕ) → AtRest (lose (fallsWith p) (touches p) m) p
 crash-down m p =
     record {
-      ready = rw (part-lose (fallen p) (touches p) m p) (all-ready (partition m p .records) (fallen p p) (λ r. rw (eqb-same p) refl));
-      from = λ q h. queue-lose (fallen p) (touches p) m p q h ∙ rw (eqb-same p) refl;
-      to = λ q h. queue-lose (fallen p) (touches p) m q p h ∙ rw (eqb-same p, or-true (eqb q p)) refl;
+      ready = rw (part-lose (fallsWith p) (touches p) m p) (all-ready (partition m p .records) (fallsWith p p) (λ r. rw (eqb-same p) refl));
+      from = λ q h. queue-lose (fallsWith p) (touches p) m p q h ∙ rw (eqb-same p) refl;
+      to = λ q h. queue-lose (fallsWith p) (touches p) m q p h ∙ rw (eqb-same p, or-true (eqb q p)) refl;
     }
 
-pub new-part : (k p : ℕ) → (partition (fresh k) p ≡ freshPartition) ⊎ (partition (fresh k) p ≡ noPartition)
+pub fresh-part : (k p : ℕ) → (partition (fresh k) p ≡ freshPartition) ⊎ (partition (fresh k) p ≡ noPartition)
 unfolding partition fresh
-new-part zero p = inr refl
-new-part (suc k) zero = inl refl
-new-part (suc k) (suc p) = new-part k p
+fresh-part zero p = inr refl
+fresh-part (suc k) zero = inl refl
+fresh-part (suc k) (suc p) = fresh-part k p
 
-pub new-shape : (k : ℕ) → k ≤ 4 → Shape (fresh k)
+pub fresh-shape : (k : ℕ) → k ≤ 4 → Shape (fresh k)
 unfolding fresh
-new-shape k h = record { partitions = simp length-replicate h; queues = refl }
+fresh-shape k h = record { partitions = simp length-replicate h; queues = refl }
 
 no-queue : (j i : ℕ) → getD {A = List Message} (replicate j []) i [] ≡ []
 no-queue zero i = refl
 no-queue (suc j) zero = refl
 no-queue (suc j) (suc i) = no-queue j i
 
-pub new-queue : (k a b : ℕ) → queue (fresh k) a b ≡ []
+pub fresh-queue : (k a b : ℕ) → queue (fresh k) a b ≡ []
 unfolding queue fresh
-new-queue k a b = no-queue 16 (a * 4 + b)
+fresh-queue k a b = no-queue 16 (a * 4 + b)
 
-pub new-none : {B : Type 0} (k : ℕ) (f : Partition → B) (v : B) → f freshPartition ≡ v → f noPartition ≡ v → (p : ℕ) → f (partition (fresh k) p) ≡ v
-new-none k f v a b p = elim (new-part k p) [ inl e ↦ rw e a | inr e ↦ rw e b ]
+pub fresh-none : {B : Type 0} (k : ℕ) (f : Partition → B) (v : B) → f freshPartition ≡ v → f noPartition ≡ v → (p : ℕ) → f (partition (fresh k) p) ≡ v
+fresh-none k f v a b p = elim (fresh-part k p) [ inl e ↦ rw e a | inr e ↦ rw e b ]
 
-pub new-blank : (k p n : ℕ) → Blank (fresh k) p n
+pub fresh-blank : (k p n : ℕ) → Blank (fresh k) p n
 unfolding freshPartition noPartition keep
-new-blank k p n =
+fresh-blank k p n =
     record {
-      entries = new-none k (λ x. keep (entryBears n) (x .entries)) [] refl refl p;
-      records = new-none k (λ x. keep (recordBears n) (x .records)) [] refl refl p;
-      backpointers = new-none k (λ x. keep (backpointerBears p n) (x .backpointers)) [] refl refl;
-      messages = λ a b h. rw (new-queue k a b) refl;
+      entries = fresh-none k (λ x. keep (entryBears n) (x .entries)) [] refl refl p;
+      records = fresh-none k (λ x. keep (recordBears n) (x .records)) [] refl refl p;
+      backpointers = fresh-none k (λ x. keep (backpointerBears p n) (x .backpointers)) [] refl refl;
+      messages = λ a b h. rw (fresh-queue k a b) refl;
     }
 
-pub new-one : (k : ℕ) → 1 ≤ k → 0 < length (fresh k .partitions)
+pub fresh-one : (k : ℕ) → 1 ≤ k → 0 < length (fresh k .partitions)
 unfolding fresh
-new-one k h = simp length-replicate h
+fresh-one k h = simp length-replicate h
 
 pub blank-neat : (u : Bool) → Neat (record { up = u; last = 0; entries = []; backpointers = []; records = [] })
 unfolding keep claimed

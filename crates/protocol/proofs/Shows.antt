@@ -206,7 +206,7 @@ module _ (m : Model) (w : Whole m) where
     entry-given : (e : Entry) → List·Memᴰ e (partition m p .entries) → givenBy (partition m p) (e .number) ≡ true
     entry-given e i = was-given p (e .number) (λ v. List·Memᴰ·not-nil (rw (v .entries) at (entry-here e i)))
 
-    record-fits : (r : Record) → List·Memᴰ r (partition m p .records) → Fine m (ofRecord r) × (stageFits (r .kind) (r .stage) ≡ true)
+    pub record-fits : (r : Record) → List·Memᴰ r (partition m p .records) → Fine m (ofRecord r) × (stageFits (r .kind) (r .stage) ≡ true)
     record-fits r i =
         let y : Fit m p (r .number) = w .local p (r .number) in
         record-why m (y .what) (r .number) r (y .way) (y .sound) (rw (y .has .records) at (record-here r i))

@@ -28,7 +28,7 @@ use Rattle.protocol.proofs.Shows.{answers-about, asks-about}
 use Rattle.protocol.proofs.Whole.{Fit, Sound, Way, Whole, asking, idle, mailOf, ofBackpointer, ofEntry, ofRecord, recsOf, rests, told}
 
 -- what is in range, and a good name
-range-fine : (m : Model) (c : Content) → inRange m (c .directory) (c .partition) (c .object) ≡ true → goodName (c .name) ≡ true → Fine m c
+pub range-fine : (m : Model) (c : Content) → inRange m (c .directory) (c .partition) (c .object) ≡ true → goodName (c .name) ≡ true → Fine m c
 unfolding inRange
 range-fine m c h g =
     record { partition = ltb-true _ _ (every-at _ h 1); directory = ltb-true _ _ (every-at _ h 0); object = ltb-true _ _ (every-at _ h 2); name = g }

@@ -5,7 +5,7 @@ use mathlib.Core.List.{List, [], _∷_, _++_}
 use Prim.Native.Nat.{ℕ, suc, _+_, _*_}
 use lib.Dec.{eqb, ltb}
 use lib.ListN.{length, getD, set, replicate}
-use Rattle.lists.specs.Lists.{keep, without, mapIf, isNone}
+use Rattle.lists.specs.Lists.{keep, without, mapIf, isNone, total}
 use Rattle.names.specs.Names.{sameName}
 use Rattle.protocol.specs.Bounds.{maxPartitions, directories, objects, queueCount}
 use Rattle.protocol.specs.Elements.{Name, Kind, Unlink, Stage, Ready, Body, Entry, Backpointer, Record, Message, adds}
@@ -164,10 +164,6 @@ unfoldable pub fresh : ℕ → Model
 fresh k = record { partitions = replicate k freshPartition; queues = replicate queueCount [] }
 
 -- ---- the totals that the rehearsal's `S` gives
-
-unfoldable pub total : {A : Type 0} → (A → ℕ) → List A → ℕ
-total f [] = 0
-total f (x ∷ l) = f x + total f l
 
 pub record Totals : Type 0 where
   pub entries : ℕ
