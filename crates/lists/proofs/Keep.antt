@@ -1,12 +1,12 @@
 -- What is kept of a list, taken out of it, or changed in it.
 use mathlib.Core.Bool.{Bool, false, true}
-use mathlib.Core.List.{List, [], _++_, _∷_, append-nil, head-eq-of-cons-eq, map, nil≢cons}
+use mathlib.Core.List.{List, List·Memᴰ, List·Memᴰ·not-nil, [], _++_, _∷_, append-nil, head-eq-of-cons-eq, map, nil≢cons}
 use mathlib.Core.Path.{_∙_, _≡_, ap, refl, sym}
-use Prim.Native.Nat.{_+_, _≤_, suc}
-use native.Mathlib.Nat.{le-refl}
+use Prim.Native.Nat.{_+_, _≤_, suc, zero, ℕ}
+use native.Mathlib.Nat.{add-zero, le-refl}
 use native.Mathlib.Omega.{arith}
-use lib.ListN.{length}
-use Rattle.lists.specs.Lists.{keep, mapIf, one, pick, without}
+use lib.ListN.{getD, length, length-append}
+use Rattle.lists.specs.Lists.{isNone, keep, mapFrom, mapIf, one, pick, without}
 use Rattle.lists.proofs.Tests.{byTest, hit, hit-le, no-true}
 
 module _ {A : Type 0} where
@@ -185,3 +185,51 @@ module _ {A : Type 0} where
       byTest (f x)
       (λ t. rw (t, without) a)
       (λ t. rw (t, without) (rw (tally g′ x (without f l), tally g x (without f l), h x t) (omega arith)))
+
+-- one element, or none
+pub one-le : {A : Type 0} (t : Bool) (x : A) → length (one t x) ≤ 1
+one-le true x = le-refl 1
+one-le false x = omega arith
+
+pub one-cons : {A : Type 0} (x y : A) (k : List A) (t : Bool) → x ∷ k ≡ one t y → (t ≡ true) × (x ≡ y)
+one-cons x y k true e = (refl, head-eq-of-cons-eq e)
+one-cons x y k false e = absurd (nil≢cons (sym e))
+
+-- an element more
+pub snoc-length : {A : Type 0} (l : List A) (x : A) → length (l ++ x ∷ []) ≡ suc (length l)
+snoc-length l x = let a = length-append l (x ∷ []) in omega arith
+
+pub one-length : {A : Type 0} (t : Bool) (x : A) → length (one t x) ≡ hit t
+one-length true x = refl
+one-length false x = refl
+
+pub tally-snoc : {A : Type 0} (g : A → Bool) (l : List A) (x : A) → length (keep g (l ++ x ∷ [])) ≡ length (keep g l) + hit (g x)
+tally-snoc g l x = ap length (keep-snoc g l x) ∙ length-append (keep g l) (one (g x) x) ∙ ap (λ (k : ℕ). length (keep g l) + k) (one-length (g x) x)
+
+pub single : {A : Type 0} (g : A → Bool) (x : A) → length (keep g (x ∷ [])) ≡ hit (g x)
+single g x = tally g x [] ∙ (unfold keep in (omega arith))
+
+-- nothing in it
+pub none-of : {A : Type 0} (l : List A) → length l ≤ 0 → l ≡ []
+none-of [] h = refl
+none-of (x ∷ l) h = absurd (omega arith)
+
+pub isNone-true : {A : Type 0} (l : List A) → isNone l ≡ true → l ≡ []
+isNone-true [] e = refl
+isNone-true (x ∷ l) e = no-true e refl
+
+pub some-mem : {A : Type 0} {x : A} (l : List A) → List·Memᴰ x l → 1 ≤ length l
+some-mem [] i = absurd (List·Memᴰ·not-nil i)
+some-mem (y ∷ l) i = omega arith
+
+-- a change told the place
+pub getD-mapFrom : {A : Type 0} (f : ℕ → A → A) (d : A) → ((j : ℕ) → f j d ≡ d) → (l : List A) (k i : ℕ) → getD (mapFrom f k l) i d ≡ f (k + i) (getD l i d)
+unfolding mapFrom
+getD-mapFrom f d z [] k i = sym (z (k + i))
+getD-mapFrom f d z (x ∷ l) k zero = rw (add-zero k) refl
+getD-mapFrom f d z (x ∷ l) k (suc i) = getD-mapFrom f d z l (suc k) i ∙ ap (λ (j : ℕ). f j (getD l i d)) (omega arith)
+
+pub length-mapFrom : {A : Type 0} (f : ℕ → A → A) (l : List A) (k : ℕ) → length (mapFrom f k l) ≡ length l
+unfolding mapFrom
+length-mapFrom f [] k = refl
+length-mapFrom f (x ∷ l) k = ap suc (length-mapFrom f l (suc k))

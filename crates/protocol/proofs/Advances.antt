@@ -109,7 +109,7 @@ sent-next Link entered taken = refl
 sent-next Create entered taken = refl
 sent-next Unlink entered taken = refl
 
-sent-stays : {G : Type 0} (m : Model) (p : ℕ) (r : Record) (k : Kind) (entered taken : Bool) → accepted (perform m p r (nextOf k Sent entered taken)) ≡ true → G
+pub sent-stays : {G : Type 0} (m : Model) (p : ℕ) (r : Record) (k : Kind) (entered taken : Bool) → accepted (perform m p r (nextOf k Sent entered taken)) ≡ true → G
 unfolding perform
 sent-stays m p r k entered taken e = no-step (rw (sent-next k entered taken) at e)
 
@@ -129,13 +129,20 @@ module _ (m : Model) (p n : ℕ) (s : Shape m) (h : partition m p .up ≡ true) 
   advance-in (asking k) so v e = sent-stays m p _ k _ _ e
   advance-in (told k t) so v e = sent-stays m p _ k _ _ e
 
-pub advance-moved : (m : Model) (p n : ℕ) → Shape m → (y : Fit m p n) → accepted (advance m p n) ≡ true → Moved m (advance m p n .model) p n (load y)
+-- what an accepted advance shows, where G is to be shown of the tables after it
+pub advance-cases : (m : Model) (p n : ℕ) (R : List Record) → keep (recordBears n) (partition m p .records) ≡ R → (G : Model → Type 0)
+    → (partition m p .up ≡ true → accepted (advanceFound m p R) ≡ true → G (advanceFound m p R .model))
+    → accepted (advance m p n) ≡ true → G (advance m p n .model)
 unfolding advance check
-advance-moved m p n s y e =
+advance-cases m p n R r G f e =
     byTest (isPartition m p)
     (λ w. byTest (partition m p .up)
     (λ t.
-    let q : advance m p n ≡ advanceFound m p (recsOf (y .what) n (y .way)) = rw (w, t, y .has .records, advance, check) in
-    rw q (advance-in m p n s t y (y .way) (y .sound) (y .has) (ap accepted (sym q) ∙ e)))
+    let q : advance m p n ≡ advanceFound m p R = rw (w, t, r, advance, check) in
+    rw q (f t (ap accepted (sym q) ∙ e)))
     (λ t. no-step (rw (w, t) at e)))
     (λ w. no-step (rw w at e))
+
+pub advance-moved : (m : Model) (p n : ℕ) → Shape m → (y : Fit m p n) → accepted (advance m p n) ≡ true → Moved m (advance m p n .model) p n (load y)
+advance-moved m p n s y =
+    advance-cases m p n (recsOf (y .what) n (y .way)) (y .has .records) (λ m′. Moved m m′ p n (load y)) (λ h e. advance-in m p n s h y (y .way) (y .sound) (y .has) e)

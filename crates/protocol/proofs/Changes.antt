@@ -1,13 +1,13 @@
 -- What each change of the tables does to one number, and that it does nothing to the others.
 use mathlib.Core.Bool.{Bool, _&&_, false, true}
-use mathlib.Core.List.{List, [], _++_, _∷_, head-eq-of-cons-eq, map, nil≢cons, tail-eq-of-cons-eq}
+use mathlib.Core.List.{List, [], _++_, _∷_, map, tail-eq-of-cons-eq}
 use mathlib.Core.Path.{_∙_, _≡_, ap, ap₂, refl, sym}
 use Prim.Native.Nat.{_<_, _≤_, suc, ℕ}
 use native.Mathlib.Omega.{arith}
 use lib.Dec.{eqb}
 use lib.ListN.{length}
 use borrow.Author.Tests.{eq-eqb, eqb-false, eqb-true, ne-eqb}
-use Rattle.lists.specs.Lists.{isNone, keep, mapIf, one, without}
+use Rattle.lists.specs.Lists.{keep, mapIf, one, without}
 use Rattle.protocol.specs.Answers.{Outcome, check}
 use Rattle.protocol.specs.Deliver.{isExactly}
 use Rattle.protocol.specs.Demands.{backpointerBears}
@@ -167,10 +167,6 @@ module _ (m : Model) (p n : ℕ) (c : Content) (s : Shape m) (h : partition m p 
       → View m p n E R B (λ a b. []) → View (send m (c .partition) p (messageAt c n k t)) p n E R B (letters c n p (home k t))
   say-view k t g v = push-view m p n (c .partition) p s hq h (messageAt c n k t) (rw (g, eqb-same p, eqb-same n) refl) v
 
-pub one-cons : {A : Type 0} (x y : A) (k : List A) (t : Bool) → x ∷ k ≡ one t y → (t ≡ true) × (x ≡ y)
-one-cons x y k true e = (refl, head-eq-of-cons-eq e)
-one-cons x y k false e = absurd (nil≢cons (sym e))
-
 -- the request, or the answer, was the oldest
 module _ (m : Model) (p n : ℕ) (c : Content) (s : Shape m) (h : partition m p .up ≡ true) (hq : partition m (c .partition) .up ≡ true) (fi : Fine m c) (k : Kind) (l : List Message) where
   module _ (q : queue m p (c .partition) ≡ messageAt c n k Request ∷ l) where
@@ -244,7 +240,3 @@ raised-claimed x = refl
 
 pub raised-neat : (x : Partition) → x .last < 4294967295 → Neat x → Neat (raised x)
 raised-neat x h n = record { names = n .names; keys = n .keys; records = n .records; backpointers = n .backpointers; claimed = rw (raised-claimed x) (n .claimed); last = h }
-
-pub isNone-true : {A : Type 0} (l : List A) → isNone l ≡ true → l ≡ []
-isNone-true [] e = refl
-isNone-true (x ∷ l) e = no-true e refl

@@ -26,7 +26,7 @@ use Rattle.protocol.proofs.Moves.{Moves, move}
 use Rattle.protocol.proofs.Neat.{neat-stage}
 use Rattle.protocol.proofs.Numbers.{Else, View, about, backs-view, else-trans}
 use Rattle.protocol.proofs.Oldest.{deliver-cases, home-in, none-in, out-in}
-use Rattle.protocol.proofs.Verdicts.{Judged, absent, added, dropped, judged, refused, taken, there}
+use Rattle.protocol.proofs.Verdicts.{Judged, adding, dropping, judged, missing, placeOther, placeOwn, refusing}
 use Rattle.protocol.proofs.Whole.{Fit, Moved, Sound, Way, Whole, asking, idle, mailOf, ofBackpointer, ofEntry, orMore, recsOf, restAdd, restUnlink, rests, told, weigh}
 
 -- back-pointers of p's number n come or go at q; the rest of its view stays
@@ -113,18 +113,18 @@ module _ (m : Model) (p n : ℕ) (c : Content) (s : Shape m) (h : partition m p 
 
   carry-moved : (w : Verdict) → Judged bs p asked k w → Moved m (carryOut m p (c .partition) asked w) p n (weigh E (asking k))
   unfolding carryOut
-  carry-moved w (there a y ys e t) = say-moved Yes refl refl
-  carry-moved w (taken a y ys e t) = say-moved (NoBecause PlaceTaken) a refl
-  carry-moved w (refused a e why) = say-moved (NoBecause why) a refl
-  carry-moved w (added a e r) =
+  carry-moved w (placeOwn a y ys e t) = say-moved Yes refl refl
+  carry-moved w (placeOther a y ys e t) = say-moved (NoBecause PlaceTaken) a refl
+  carry-moved w (refusing a e why) = say-moved (NoBecause why) a refl
+  carry-moved w (adding a e r) =
       yes-moved (λ l. l ++ backpointerAt c n p ∷ []) (grow-else m p n c s hq e r)
       (λ b i. grown b (append-mem (keep (backpointerBears p n) bs) _ b (rw (keep-snoc (backpointerBears p n) bs (backpointerAt c n p)) at i)))
     where
       grown : (b : Backpointer) → List·Memᴰ b (keep (backpointerBears p n) bs) ⊎ List·Memᴰ b (one (backpointerBears p n (backpointerAt c n p)) (backpointerAt c n p)) → Fine m (ofBackpointer (c .partition) b)
       grown b (inl j) = old-fine (c .partition) b j
       grown b (inr j) = subst (λ (y : Backpointer). Fine m (ofBackpointer (c .partition) y)) (sym (one-mem (backpointerBears p n (backpointerAt c n p)) b (backpointerAt c n p) j .1)) fi
-  carry-moved w (absent a e) = say-moved No (rw a refl) refl
-  carry-moved w (dropped a) =
+  carry-moved w (missing a e) = say-moved No (rw a refl) refl
+  carry-moved w (dropping a) =
       yes-moved (without (isExactly p asked)) (shrink-else m p n c s hq k Request)
       (λ b i. old-fine (c .partition) b (without-mem (isExactly p asked) (keep (backpointerBears p n) bs) b (rw (keep-without (backpointerBears p n) (isExactly p asked) bs) at i)))
 

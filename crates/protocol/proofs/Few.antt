@@ -1,6 +1,6 @@
 -- How many messages a queue holds: no more of a number than records bear it.
 use mathlib.Core.Bool.{Bool, not, true}
-use mathlib.Core.List.{List, List·Memᴰ, List·Memᴰ·not-nil, [], _∷_}
+use mathlib.Core.List.{List·Memᴰ, []}
 use mathlib.Core.Path.{_≡_, ap, refl}
 use Prim.Native.Nat.{_<_, _≤_, suc, ℕ}
 use native.Mathlib.Omega.{arith}
@@ -11,6 +11,7 @@ use Rattle.lists.specs.Lists.{each, keep}
 use Rattle.protocol.specs.Elements.{Body, Message, No, NoBecause, Record, Request, Yes, isRequest}
 use Rattle.protocol.specs.Order.{giver}
 use Rattle.protocol.specs.Tables.{Model, partition, queue, recordBears}
+use Rattle.lists.proofs.Keep.{some-mem}
 use Rattle.lists.proofs.Members.{keep-mem, kept-mem, length-halves, length-keep-keep, mem-keep}
 use Rattle.lists.proofs.Sums.{by-number, by-number-ge, sum-le, sum-lt}
 use Rattle.lists.proofs.Tests.{both-true, byTest, eqb-same, no-true}
@@ -33,10 +34,6 @@ pub record Few (m : Model) : Type 0 where
   pub each : (p n a b : ℕ) → b < 4 → length (keep (about a b p n) (queue m a b)) ≤ length (keep (recordBears n) (partition m p .records))
   pub small : (p n : ℕ) → partition m p .last < n → keep (recordBears n) (partition m p .records) ≡ []
   pub sixteen : (p : ℕ) → length (partition m p .records) ≤ 16
-
-pub some-mem : {A : Type 0} {x : A} (l : List A) → List·Memᴰ x l → 1 ≤ length l
-some-mem [] i = absurd (List·Memᴰ·not-nil i)
-some-mem (y ∷ l) i = omega arith
 
 module _ (m : Model) (f : Few m) (a b : ℕ) (hb : b < 4) where
   -- the messages of p, whose test is g, are no more than p's records; fewer, if a record has none

@@ -1,6 +1,6 @@
 -- Every event keeps the tables whole, and so in order.
-use mathlib.Core.Bool.{Bool, _&&_, _||_, false, or-comm, true}
-use mathlib.Core.List.{List, List·Memᴰ, List·Memᴰ·not-nil, [], _++_, _∷_, nil≢cons}
+use mathlib.Core.Bool.{Bool, false, true}
+use mathlib.Core.List.{List·Memᴰ, List·Memᴰ·not-nil, [], nil≢cons}
 use mathlib.Core.Logic.{inl, inr}
 use mathlib.Core.Path.{_∙_, _≡_, ap, refl, subst, sym}
 use Prim.Native.Nat.{_<_, _≤_, suc, ℕ}
@@ -11,28 +11,30 @@ use lib.ListN.{length}
 use borrow.Author.Tests.{eqb-true, leb-true, ltb-true}
 use Rattle.lists.specs.Lists.{keep, mapIf}
 use Rattle.protocol.specs.Answers.{Outcome, accepted}
-use Rattle.protocol.specs.Ask.{ask, askTables, unlink, unlinkFound, unlinkOf}
+use Rattle.protocol.specs.Ask.{ask, unlink, unlinkOf}
 use Rattle.protocol.specs.Demands.{isStep}
-use Rattle.protocol.specs.Elements.{Backpointer, Create, Entry, Kind, Link, Name, Ready, Record, Sent, Unlink, adds, isSent}
+use Rattle.protocol.specs.Elements.{Create, Kind, Link, Name, Ready, Record, Unlink, adds}
 use Rattle.protocol.specs.Events.{Advancing, Crashing, Creating, Cutting, Delivering, Event, Linking, Opening, Recovering, Unlinking, bare}
-use Rattle.protocol.specs.Faults.{between, crash, cut, fallsWith, lose, openTables, recover, touches}
+use Rattle.protocol.specs.Faults.{between, crash, cut, fallsWith, lose, openTables, recover, sentBetween, touches}
 use Rattle.protocol.specs.Order.{inOrder}
-use Rattle.protocol.specs.Tables.{Model, Partition, changeRecords, claimed, entryBears, fresh, freshPartition, giveNumber, isPartition, noPartition, openRecord, partition, recordBears, setPartition, setUp, standsUnder, withRecords, withUp}
+use Rattle.protocol.specs.Tables.{Model, Partition, claimed, entryBears, fresh, freshPartition, giveNumber, noPartition, openRecord, partition, setPartition, setUp, standsUnder, withUp}
 use Rattle.lists.proofs.Members.{mem-keep, seen-mem}
 use Rattle.lists.proofs.Tests.{and-left, and-right, byTest, eqb-same, no-true}
 use Rattle.protocol.proofs.Advances.{advance-moved}
-use Rattle.protocol.proofs.Changes.{Plain, check-keeps, grown-else, grown-view, isNone-true, no-step, plain-downs, plain-view, raised, raised-claimed, raised-neat, raised-plain}
-use Rattle.protocol.proofs.Content.{AtRest, Blank, Content, DownsRest, Fine, Mail, fine-else, home, letters, out, recordAt, silent, unready}
+use Rattle.protocol.proofs.Changes.{Plain, check-keeps, grown-view, no-step, plain-downs, plain-view, raised, raised-neat, raised-plain}
+use Rattle.protocol.proofs.Content.{AtRest, Blank, Content, DownsRest, Mail, fine-else, letters, recordAt, silent, unready}
 use Rattle.protocol.proofs.Deliveries.{deliver-moved}
 use Rattle.protocol.proofs.Look.{at, part-field, part-other, part-same, up-in}
-use Rattle.protocol.proofs.Losses.{between-even, blank-neat, count-lose, crash-down, fresh-blank, fresh-none, fresh-one, fresh-part, fresh-queue, fresh-shape, letters-swept, lose-down, lose-shape, lose-up, lose-view, nil, part-lose, recast}
+use Rattle.protocol.proofs.Losses.{blank-neat, count-lose, crash-down, fresh-blank, fresh-none, fresh-one, fresh-part, fresh-queue, fresh-shape, lose-down, lose-shape, lose-up, lose-view, nil, part-lose, recast}
+use Rattle.protocol.proofs.Lost.{Evenly, crash-evenly, cut-evenly, lost-at, relapse}
 use Rattle.protocol.proofs.Moves.{Moves}
-use Rattle.protocol.proofs.Neat.{Neat, Neats, neat-more, neat-set, neat-stage, neat-unlink}
+use Rattle.protocol.proofs.Neat.{Neats, neat-set, neat-stage}
 use Rattle.protocol.proofs.Numbers.{Else, View, count-part, queue-part, shape-part}
+use Rattle.protocol.proofs.Opened.{ask-cases, unlink-cases}
 use Rattle.protocol.proofs.Refusals.{event-fair, fair-kept}
 use Rattle.protocol.proofs.Shows.{whole-order}
-use Rattle.protocol.proofs.Tells.{order-whole, range-fine}
-use Rattle.protocol.proofs.Whole.{Fit, Sound, Way, Whole, asking, change-whole, fit-else, idle, mailOf, moved-whole, ofBackpointer, ofEntry, recsOf, rests, sound-else, told}
+use Rattle.protocol.proofs.Tells.{order-whole}
+use Rattle.protocol.proofs.Whole.{Fit, Sound, Way, Whole, asking, change-whole, fit-else, idle, mailOf, moved-whole, ofEntry, recsOf, refit, rests, told}
 
 -- only up or last changes
 plain-whole : (m : Model) (p : ℕ) (x : Partition) → Plain x (partition m p) → p < length (m .partitions) → Neats (setPartition m p x) → DownsRest (setPartition m p x) → Whole m → Whole (setPartition m p x)
@@ -50,45 +52,36 @@ plain-whole m p x e h ne dn i =
     }
 
 -- a number is given
+given-last : (m : Model) (p : ℕ) → p < length (m .partitions) → partition (giveNumber m p) p .last ≡ suc (partition m p .last)
+unfolding giveNumber
+given-last m p h = ap (λ (y : Partition). y .last) (part-same m p (raised (partition m p)) h)
+
 given-whole : (m : Model) (p : ℕ) → p < length (m .partitions) → partition m p .last < 4294967295 → Whole m → Whole (giveNumber m p)
 unfolding giveNumber
 given-whole m p h l g =
     let x : Partition = raised (partition m p) in
     plain-whole m p x (raised-plain (partition m p)) h (neat-set m p x h (raised-neat (partition m p) l) (g .neat)) (plain-downs m p x h refl refl (g .downs)) g
 
-pub ask-whole : (k : Kind) → adds k ≡ true → (m : Model) (p d : ℕ) (t : Name) (q o : ℕ) → Whole m → Whole (ask k m p d t q o .model)
-unfolding ask askTables giveNumber
+ask-whole : (k : Kind) → adds k ≡ true → (m : Model) (p d : ℕ) (t : Name) (q o : ℕ) → Whole m → Whole (ask k m p d t q o .model)
 ask-whole k a m p d t q o g =
-    check-keeps Whole _ _ m _ g λ e₁. check-keeps Whole _ _ m _ g λ e₂. check-keeps Whole _ _ m _ g λ e₃. check-keeps Whole _ _ m _ g λ e₄.
-    check-keeps Whole _ _ m _ g λ e₅. check-keeps Whole _ _ m _ g λ e₆. check-keeps Whole _ _ m _ g λ e₇.
-    let h : p < length (m .partitions) = up-in m p e₃ in
+    ask-cases k m p d t q o Whole g λ y.
     let c : Content = record { directory = d; name = t; partition = q; object = o } in
     let n : ℕ = suc (partition m p .last) in
-    let r : Record = recordAt c n k Ready in
-    let x : Partition = raised (partition m p) in
-    let m₁ : Model = setPartition m p x in
-    let g₁ : Whole m₁ = given-whole m p h (ltb-true _ _ e₅) g in
-    let h₁ : partition m₁ p .up ≡ true = rw (part-same m p x h) e₃ in
-    let w : Neat (partition m₁ p) → Neat (withRecords (partition m₁ p) (partition m₁ p .records ++ r ∷ [])) =
-    rw (part-same m p x h) (neat-more x r (ltb-true _ _ e₆) (ltb-true _ _ (rw (raised-claimed (partition m p)) e₇))) in
-    let f : Else m₁ (openRecord m₁ p r) p n = grown-else m₁ p (g₁ .shape) h₁ r w in
-    let fi : Fine (openRecord m₁ p r) c = fine-else (f .count ∙ count-part m p x) (range-fine m c (and-right (isPartition m p) _ e₁) e₂) in
+    let g₁ : Whole (giveNumber m p) = given-whole m p (y .inside) (y .last) g in
+    let f : Else (giveNumber m p) (openRecord (giveNumber m p) p (recordAt c n k Ready)) p n = y .others (g .shape) in
     change-whole g₁ f
     (record {
       what = c;
       way = rests k Ready;
       entries = [];
       backpointers = λ q. [];
-      has = grown-view m₁ p (g₁ .shape) h₁ r (plain-view m p x (raised-plain (partition m p)) h (g .later p n (le-refl _)));
-      sound = (fi, refl, refl);
+      has = y .has (g .shape) (g .later p n (le-refl _));
+      sound = (fine-else (f .count) (y .fine), refl, refl);
       single = lit≤ tt;
       entriesFine = λ e i. absurd (List·Memᴰ·not-nil i);
       backpointersFine = λ q b i. absurd (List·Memᴰ·not-nil i);
     })
-    (λ l.
-    let e : partition m₁ p .last ≡ n = ap (λ (y : Partition). y .last) (part-same m p x h) in
-    let e′ : partition (openRecord m₁ p r) p .last ≡ partition m₁ p .last = f .lasts p in
-    omega arith)
+    (λ l. let e = f .lasts p in let e′ = given-last m p (y .inside) in omega arith)
     (λ l. omega arith)
 
 no-record : (c : Content) (n : ℕ) (w : Way) → recsOf c n w ≡ [] → mailOf w ≡ silent
@@ -97,82 +90,47 @@ no-record c n (rests k s) e = absurd (nil≢cons (sym e))
 no-record c n (asking k) e = absurd (nil≢cons (sym e))
 no-record c n (told k t) e = absurd (nil≢cons (sym e))
 
-pub unlink-whole : (m : Model) (p d : ℕ) (t : Name) → Whole m → Whole (unlink m p d t .model)
-unfolding unlink
-unlink-whole m p d t g = check-keeps Whole _ _ m _ g λ e₁. check-keeps Whole _ _ m _ g λ e₀. check-keeps Whole _ _ m _ g λ e₂. go e₂ (keep (standsUnder d t) (partition m p .entries)) refl
-  where
-    go : partition m p .up ≡ true → (es : List Entry) → keep (standsUnder d t) (partition m p .entries) ≡ es → Whole (unlinkFound m p es .model)
-    go h [] q = g
-    go h (e ∷ es) q = check-keeps Whole _ _ m _ g λ e₃. check-keeps Whole _ _ m _ g λ e₄.
-        let n : ℕ = e .number in
-        let y : Fit m p n = g .local p n in
-        let i : List·Memᴰ e (keep (entryBears n) (partition m p .entries)) = mem-keep (entryBears n) (partition m p .entries) e (seen-mem (standsUnder d t) (partition m p .entries) es e q) (eqb-same n) in
-        let nor : keep (recordBears n) (partition m p .records) ≡ [] = isNone-true _ e₃ in
-        let o : Else m (changeRecords m p (λ l. l ++ unlinkOf e ∷ [])) p n = grown-else m p (g .shape) h (unlinkOf e) (neat-unlink (partition m p) (unlinkOf e) refl (ltb-true _ _ e₄)) in
-        let v : View m p n (y .entries) [] (y .backpointers) (λ a b. []) =
-        record { entries = y .has .entries; records = nor; backpointers = y .has .backpointers; messages = λ a b hb. y .has .messages a b hb ∙ ap (λ (l : Mail). letters (y .what) n p l a b) (no-record (y .what) n (y .way) (sym (y .has .records) ∙ nor)) } in
-        change-whole g o
-        (record {
-          what = ofEntry e;
-          way = rests Unlink Ready;
-          entries = y .entries;
-          backpointers = y .backpointers;
-          has = grown-view m p (g .shape) h (unlinkOf e) v;
-          sound = (fine-else (o .count) (y .entriesFine e (rw (y .has .entries) at i)), refl, refl);
-          single = y .single;
-          entriesFine = λ e i. fine-else (o .count) (y .entriesFine e i);
-          backpointersFine = λ q b i. fine-else (o .count) (y .backpointersFine q b i);
-        })
-        (λ z. List·Memᴰ·not-nil (rw (g .later p n (rw (o .lasts p) at z) .entries) at i))
-        (λ z. List·Memᴰ·not-nil (rw ((let b : Blank m p n = rw z (g .never p) in b) .entries) at i))
+unlink-whole : (m : Model) (p d : ℕ) (t : Name) → Whole m → Whole (unlink m p d t .model)
+unlink-whole m p d t g =
+    unlink-cases m p d t Whole g λ e es u.
+    let n : ℕ = e .number in
+    let y : Fit m p n = g .local p n in
+    let i : List·Memᴰ e (keep (entryBears n) (partition m p .entries)) = mem-keep (entryBears n) (partition m p .entries) e (seen-mem (standsUnder d t) (partition m p .entries) es e (u .found)) (eqb-same n) in
+    let o : Else m (openRecord m p (unlinkOf e)) p n = u .others (g .shape) in
+    let silence = no-record (y .what) n (y .way) (sym (y .has .records) ∙ u .unopened) in
+    let v : View m p n (y .entries) [] (y .backpointers) (λ a b. []) =
+    record { entries = y .has .entries; records = u .unopened; backpointers = y .has .backpointers; messages = λ a b hb. y .has .messages a b hb ∙ ap (λ (l : Mail). letters (y .what) n p l a b) silence } in
+    change-whole g o
+    (record {
+      what = ofEntry e;
+      way = rests Unlink Ready;
+      entries = y .entries;
+      backpointers = y .backpointers;
+      has = grown-view m p (g .shape) (u .up) (unlinkOf e) v;
+      sound = (fine-else (o .count) (y .entriesFine e (rw (y .has .entries) at i)), refl, refl);
+      single = y .single;
+      entriesFine = λ e i. fine-else (o .count) (y .entriesFine e i);
+      backpointersFine = λ q b i. fine-else (o .count) (y .backpointersFine q b i);
+    })
+    (λ z. List·Memᴰ·not-nil (rw (g .later p n (rw (o .lasts p) at z) .entries) at i))
+    (λ z. List·Memᴰ·not-nil (rw ((let b : Blank m p n = rw z (g .never p) in b) .entries) at i))
 
 -- a cut or a crash
-module _ (f : ℕ → Record → Bool) (g : ℕ → ℕ → Bool) (fair : (p : ℕ) (r : Record) → r .stage ≡ Sent → f p r ≡ g p (r .partition)) (even : (a b : ℕ) → g a b ≡ g b a)
-    (m : Model) (p n : ℕ) (c : Content) (E : List Entry) (B : ℕ → List Backpointer) (si : length E ≤ 1)
-    (ef : (e : Entry) → List·Memᴰ e E → Fine m (ofEntry e)) (bf : (q : ℕ) (b : Backpointer) → List·Memᴰ b (B q) → Fine m (ofBackpointer q b)) where
-  abbrev lost : Model
-  lost = lose f g m
+sound-ready : (m : Model) (c : Content) (w : Way) → Sound m c w → Sound m c (relapse w)
+sound-ready m c idle so = tt
+sound-ready m c (rests k s) so = (so .0, refl, refl)
+sound-ready m c (asking k) so = (so, refl, refl)
+sound-ready m c (told k t) so = (so .0, refl, refl)
 
-  to : (w : Way) → Sound m c w → View lost p n E (recsOf c n w) B (letters c n p (mailOf w)) → Fit lost p n
-  to w so v =
-      record {
-        what = c;
-        way = w;
-        entries = E;
-        backpointers = B;
-        has = v;
-        sound = sound-else m lost c w (count-lose f g m) so;
-        single = si;
-        entriesFine = λ e i. fine-else (count-lose f g m) (ef e i);
-        backpointersFine = λ q b i. fine-else (count-lose f g m) (bf q b i);
-      }
-
-  sent-lost : (k : Kind) (w : Way) (l : Mail) → Fine m c → Sound m c w → View m p n E (recordAt c n k Sent ∷ []) B (letters c n p l)
-      → (View lost p n E (recordAt c n k Sent ∷ []) B (letters c n p l) → View lost p n E (recsOf c n w) B (letters c n p (mailOf w))) → Fit lost p n
-  unfolding mapIf
-  sent-lost k w l fi so v same =
-      byTest (f p (recordAt c n k Sent))
-      (λ t. to (rests k Ready) (fi, refl, refl) (recast (lose-view f g m v) (rw t refl) (letters-swept g even p n c true l (sym (fair p (recordAt c n k Sent) refl) ∙ t))))
-      (λ t. to w so (same (recast (lose-view f g m v) (rw t refl) (letters-swept g even p n c false l (sym (fair p (recordAt c n k Sent) refl) ∙ t)))))
-
-  lost-at : (w : Way) → Sound m c w → View m p n E (recsOf c n w) B (letters c n p (mailOf w)) → Fit lost p n
-  unfolding mapIf
-  lost-at idle so v = to idle tt (recast (lose-view f g m v) refl (λ a b. nil (g a b)))
-  lost-at (rests k s) so v =
-      byTest (f p (recordAt c n k s))
-      (λ t. to (rests k Ready) (so .0, refl, refl) (recast (lose-view f g m v) (rw t refl) (λ a b. nil (g a b))))
-      (λ t. to (rests k s) so (recast (lose-view f g m v) (rw t refl) (λ a b. nil (g a b))))
-  lost-at (asking k) so v = sent-lost k (asking k) (out k) so so v (λ y. y)
-  lost-at (told k t) so v = sent-lost k (told k t) (home k t) (so .0) so v (λ y. y)
-
-lose-whole : (f : ℕ → Record → Bool) (g : ℕ → ℕ → Bool) (fair : (p : ℕ) (r : Record) → r .stage ≡ Sent → f p r ≡ g p (r .partition)) (even : (a b : ℕ) → g a b ≡ g b a) (m : Model)
-    → Whole m → Whole (lose f g m)
+lose-whole : (f : ℕ → Record → Bool) (g : ℕ → ℕ → Bool) → Evenly f g → (m : Model) → Whole m → Whole (lose f g m)
 unfolding mapIf
-lose-whole f g fair even m i =
+lose-whole f g v m i =
     record {
       shape = lose-shape f g m (i .shape);
       some = rw (count-lose f g m) (i .some);
-      local = λ p n. let y : Fit m p n = i .local p n in lost-at f g fair even m p n (y .what) (y .entries) (y .backpointers) (y .single) (y .entriesFine) (y .backpointersFine) (y .way) (y .sound) (y .has);
+      local = λ p n. let y : Fit m p n = i .local p n in
+          lost-at f g v m p n (y .what) (y .entries) (y .backpointers) (Fit (lose f g m) p n) (Sound m (y .what)) (sound-ready m (y .what))
+          (λ w so u. refit (count-lose f g m) y w so u) (y .way) (y .sound) (y .has);
       later = λ p n t. recast (lose-view f g m (i .later p n (rw (part-lose f g m p) at t))) refl (λ a b. nil (g a b));
       never = λ p. recast (lose-view f g m (i .never p)) refl (λ a b. nil (g a b));
       neat = λ q. rw (part-lose f g m q) (neat-stage (partition m q) (f q) Ready (i .neat q));
@@ -196,23 +154,18 @@ up-whole m p u h d g =
       to = λ b l. queue-part m p x b q ∙ y .to b l;
     }) g
 
-pub cut-whole : (m : Model) (a b : ℕ) → Whole m → Whole (cut m a b .model)
+cut-whole : (m : Model) (a b : ℕ) → Whole m → Whole (cut m a b .model)
 unfolding cut
 cut-whole m a b i =
-    check-keeps Whole _ _ m _ i λ e₁. check-keeps Whole _ _ m _ i λ e₂. check-keeps Whole _ _ m _ i λ e₃.
-    lose-whole (λ q r. isSent (r .stage) && between a b q (r .partition)) (between a b) (λ p r e. rw e refl) (between-even a b) m i
+    check-keeps Whole _ _ m _ i λ e₁. check-keeps Whole _ _ m _ i λ e₂. check-keeps Whole _ _ m _ i λ e₃. lose-whole (sentBetween a b) (between a b) (cut-evenly a b) m i
 
-pub crash-whole : (m : Model) (p : ℕ) → Whole m → Whole (crash m p .model)
+crash-whole : (m : Model) (p : ℕ) → Whole m → Whole (crash m p .model)
 unfolding crash
 crash-whole m p i =
     check-keeps Whole _ _ m _ i λ e₁. check-keeps Whole _ _ m _ i λ e₂.
-    up-whole _ p false (rw (count-lose (fallsWith p) (touches p) m) (up-in m p e₂)) (λ e. crash-down m p)
-    (lose-whole (fallsWith p) (touches p) (λ q r e. rw e (or-false (eqb q p) (eqb (r .partition) p))) (λ a b. or-comm (eqb a p) (eqb b p)) m i)
-  where
-    or-false : (a b : Bool) → (a || (true && b)) ≡ (a || b)
-    or-false a b = refl
+    up-whole _ p false (rw (count-lose (fallsWith p) (touches p) m) (up-in m p e₂)) (λ e. crash-down m p) (lose-whole (fallsWith p) (touches p) (crash-evenly p) m i)
 
-pub recover-whole : (m : Model) (p : ℕ) → Whole m → Whole (recover m p .model)
+recover-whole : (m : Model) (p : ℕ) → Whole m → Whole (recover m p .model)
 unfolding recover
 recover-whole m p i = check-keeps Whole _ _ m _ i λ e₁. check-keeps Whole _ _ m _ i λ e₂. up-whole m p true (ltb-true _ _ e₁) (λ e. no-true refl e) i
 

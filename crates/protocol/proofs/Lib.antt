@@ -14,9 +14,17 @@ pub mod Oldest
 pub mod Advances
 pub mod Deliveries
 pub mod Refusals
+pub mod Lost
+pub mod Opened
 pub mod Kept
 pub mod Applied
 pub mod Bound
 pub mod Progress
 pub mod Settling
+pub mod Room
+pub mod Ties
+pub mod TiedSteps
+pub mod TiedEvents
+pub mod Safe
+pub mod Reached
 pub mod Examples

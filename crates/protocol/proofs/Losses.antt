@@ -4,52 +4,42 @@ use mathlib.Core.List.{List, [], _∷_}
 use mathlib.Core.Logic.{_⊎_, inl, inr}
 use mathlib.Core.Path.{_∙_, _≡_, ap, ap₂, refl, sym}
 use Prim.Native.Nat.{_%_, _*_, _+_, _/_, _<_, _≤_, suc, zero, ℕ}
-use native.Mathlib.Nat.{add-zero, zero-add}
+use native.Mathlib.Nat.{zero-add}
 use native.Mathlib.Omega.{arith}
 use lib.Dec.{eqb, lit≤}
 use lib.ListN.{getD, length, length-replicate, replicate}
 use borrow.Author.Tests.{eqb-true}
-use Rattle.lists.specs.Lists.{keep, mapFrom, mapIf, one, pick}
+use Rattle.lists.specs.Lists.{keep, mapIf, one, pick}
 use Rattle.protocol.specs.Demands.{backpointerBears}
 use Rattle.protocol.specs.Elements.{Backpointer, Entry, Message, Ready, Record, Request}
 use Rattle.protocol.specs.Faults.{between, drained, fallsWith, lose, relapsed, touches}
 use Rattle.protocol.specs.Tables.{Model, Partition, claimed, entryBears, fresh, freshPartition, inStage, noPartition, partition, queue, recordBears}
-use Rattle.lists.proofs.Keep.{keep-mapIf, length-keep-mapIf}
+use Rattle.lists.proofs.Keep.{getD-mapFrom, keep-mapIf, length-keep-mapIf, length-mapFrom, none-of}
 use Rattle.lists.proofs.Tests.{and-left, and-right, byTest, eqb-same, no-true}
 use Rattle.protocol.proofs.Content.{AtRest, Blank, Content, Mail, home, letters, messageAt, out, silent, unready}
 use Rattle.protocol.proofs.Look.{Shape}
 use Rattle.protocol.proofs.Neat.{Neat}
 use Rattle.protocol.proofs.Numbers.{View, about}
 
-getD-mapI : {A : Type 0} (f : ℕ → A → A) (d : A) → ((j : ℕ) → f j d ≡ d) → (l : List A) (k i : ℕ) → getD (mapFrom f k l) i d ≡ f (k + i) (getD l i d)
-unfolding mapFrom
-getD-mapI f d z [] k i = sym (z (k + i))
-getD-mapI f d z (x ∷ l) k zero = rw (add-zero k) refl
-getD-mapI f d z (x ∷ l) k (suc i) = getD-mapI f d z l (suc k) i ∙ ap (λ (j : ℕ). f j (getD l i d)) (omega arith)
-
-length-mapI : {A : Type 0} (f : ℕ → A → A) (l : List A) (k : ℕ) → length (mapFrom f k l) ≡ length l
-unfolding mapFrom
-length-mapI f [] k = refl
-length-mapI f (x ∷ l) k = ap suc (length-mapI f l (suc k))
+-- an empty queue, emptied or not
+pub nil : (t : Bool) → pick {A = List Message} t [] [] ≡ []
+nil true = refl
+nil false = refl
 
 module _ (f : ℕ → Record → Bool) (g : ℕ → ℕ → Bool) (m : Model) where
   pub part-lose : (q : ℕ) → partition (lose f g m) q ≡ relapsed f q (partition m q)
   unfolding partition lose noPartition mapIf
-  part-lose q = getD-mapI (relapsed f) noPartition (λ j. refl) (m .partitions) 0 q ∙ ap (λ (j : ℕ). relapsed f j (getD (m .partitions) q noPartition)) (zero-add q)
+  part-lose q = getD-mapFrom (relapsed f) noPartition (λ j. refl) (m .partitions) 0 q ∙ ap (λ (j : ℕ). relapsed f j (getD (m .partitions) q noPartition)) (zero-add q)
 
   pub queue-lose : (a b : ℕ) → b < 4 → queue (lose f g m) a b ≡ pick (g a b) [] (queue m a b)
   unfolding queue lose
   queue-lose a b h =
-      getD-mapI (drained g) [] (λ j. nil (g (j / 4) (j % 4))) (m .queues) 0 (a * 4 + b)
+      getD-mapFrom (drained g) [] (λ j. nil (g (j / 4) (j % 4))) (m .queues) 0 (a * 4 + b)
       ∙ ap₂ (λ (x y : ℕ). pick (g x y) [] (getD (m .queues) (a * 4 + b) [])) (omega arith) (omega arith)
-    where
-      nil : (t : Bool) → pick {A = List Message} t [] [] ≡ []
-      nil true = refl
-      nil false = refl
 
   pub lose-shape : Shape m → Shape (lose f g m)
   unfolding lose
-  lose-shape s = record { partitions = simp length-mapI (s .partitions); queues = simp length-mapI (s .queues) }
+  lose-shape s = record { partitions = simp length-mapFrom (s .partitions); queues = simp length-mapFrom (s .queues) }
 
   pub lose-view : {p n : ℕ} {E : List Entry} {R : List Record} {B : ℕ → List Backpointer} {M : ℕ → ℕ → List Message} → View m p n E R B M
       → View (lose f g m) p n E (mapIf (f p) (inStage Ready) R) B (λ a b. pick (g a b) [] (M a b))
@@ -68,15 +58,11 @@ module _ (f : ℕ → Record → Bool) (g : ℕ → ℕ → Bool) (m : Model) wh
 
 pub count-lose : (f : ℕ → Record → Bool) (g : ℕ → ℕ → Bool) (m : Model) → length (lose f g m .partitions) ≡ length (m .partitions)
 unfolding lose
-count-lose f g m = length-mapI (relapsed f) (m .partitions) 0
+count-lose f g m = length-mapFrom (relapsed f) (m .partitions) 0
 
 pub recast : {m : Model} {p n : ℕ} {E : List Entry} {R R′ : List Record} {B : ℕ → List Backpointer} {M M′ : ℕ → ℕ → List Message}
     → View m p n E R B M → R ≡ R′ → ((a b : ℕ) → M a b ≡ M′ a b) → View m p n E R′ B M′
 recast v e f = record { entries = v .entries; records = v .records ∙ e; backpointers = v .backpointers; messages = λ a b h. v .messages a b h ∙ f a b }
-
-pub nil : (t : Bool) → pick {A = List Message} t [] [] ≡ []
-nil true = refl
-nil false = refl
 
 module _ (g : ℕ → ℕ → Bool) (even : (a b : ℕ) → g a b ≡ g b a) (p n : ℕ) (c : Content) where
   swept : (t : Bool) (a b : ℕ) (x y : ℕ) (z : Message) → g x y ≡ t → pick (g a b) [] (one (eqb a x && eqb b y) z) ≡ pick t [] (one (eqb a x && eqb b y) z)
@@ -90,10 +76,6 @@ module _ (g : ℕ → ℕ → Bool) (even : (a b : ℕ) → g a b ≡ g b a) (p 
   letters-swept t (out k) e a b = swept t a b p (c .partition) (messageAt c n k Request) e
   letters-swept t (home k x) e a b = swept t a b (c .partition) p (messageAt c n k x) (even (c .partition) p ∙ e)
 
-none-of : {A : Type 0} (l : List A) → length l ≤ 0 → l ≡ []
-none-of [] h = refl
-none-of (x ∷ l) h = absurd (omega arith)
-
 module _ (f : ℕ → Record → Bool) (g : ℕ → ℕ → Bool) (m : Model) where
   pub lose-up : (q : ℕ) → partition (lose f g m) q .up ≡ partition m q .up
   lose-up q = ap (λ (x : Partition). x .up) (part-lose f g m q)
@@ -102,13 +84,9 @@ module _ (f : ℕ → Record → Bool) (g : ℕ → ℕ → Bool) (m : Model) wh
   lose-down p d =
       record {
         ready = rw (part-lose f g m p) (none-of _ (let a = length-keep-mapIf unready (f p) (inStage Ready) (λ x e. no-true e refl) (partition m p .records) in let b = ap length (d .ready) in omega arith));
-        from = λ q h. queue-lose f g m p q h ∙ ap (pick (g p q) []) (d .from q h) ∙ nilₘ (g p q);
-        to = λ q h. queue-lose f g m q p h ∙ ap (pick (g q p) []) (d .to q h) ∙ nilₘ (g q p);
+        from = λ q h. queue-lose f g m p q h ∙ ap (pick (g p q) []) (d .from q h) ∙ nil (g p q);
+        to = λ q h. queue-lose f g m q p h ∙ ap (pick (g q p) []) (d .to q h) ∙ nil (g q p);
       }
-    where
-      nilₘ : (t : Bool) → pick {A = List Message} t [] [] ≡ []
-      nilₘ true = refl
-      nilₘ false = refl
 
 pub between-even : (a b x y : ℕ) → between a b x y ≡ between a b y x
 between-even a b x y = or-comm (eqb x a && eqb y b) (eqb x b && eqb y a) ∙ ap₂ _||_ (and-comm (eqb x b) (eqb y a)) (and-comm (eqb x a) (eqb y b))

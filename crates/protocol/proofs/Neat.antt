@@ -2,16 +2,16 @@
 use mathlib.Core.Bool.{Bool, _&&_, false, true}
 use mathlib.Core.List.{List, [], _++_, _∷_}
 use mathlib.Core.Path.{_∙_, _≡_, ap, refl, sym}
-use Prim.Native.Nat.{_+_, _<_, _≤_, suc, ℕ}
+use Prim.Native.Nat.{_<_, _≤_, ℕ}
 use native.Mathlib.Nat.{le-refl, le-trans}
 use native.Mathlib.Omega.{arith}
 use lib.Dec.{eqb}
-use lib.ListN.{length, length-append}
+use lib.ListN.{length}
 use borrow.Author.Tests.{eqb-false, eqb-true, ne-eqb}
-use Rattle.lists.specs.Lists.{isNone, keep, mapIf, one, without}
+use Rattle.lists.specs.Lists.{isNone, keep, mapIf, without}
 use Rattle.protocol.specs.Elements.{Backpointer, Entry, Name, Record, Stage, Unlink, adds}
 use Rattle.protocol.specs.Tables.{Model, Partition, claimed, entryBears, inPlace, inStage, partition, recordBears, setPartition, standsUnder, turned, unentered, withBackpointers, withEntries, withRecords}
-use Rattle.lists.proofs.Keep.{keep-cong, keep-snoc, keep-snoc-other, keep-without-other, length-keep-mapIf, length-keep-without, length-mapIf, length-split, length-without, tally}
+use Rattle.lists.proofs.Keep.{keep-cong, keep-snoc, keep-snoc-other, keep-without-other, length-keep-mapIf, length-keep-without, length-mapIf, length-split, length-without, single, snoc-length, tally-snoc}
 use Rattle.lists.proofs.Tests.{byTest, eqb-same, hit, no-true}
 use Rattle.protocol.proofs.Look.{at, part-other, part-same, place-true, stands-true}
 
@@ -49,16 +49,6 @@ neat-turn x f n = neat-alter x f turned (λ r e. no-true e refl) n
 
 pub neat-close : (x : Partition) (f : Record → Bool) → Neat x → Neat (withRecords x (without f (x .records)))
 neat-close x f n = neat-records x (without f (x .records)) (le-trans (length-without f (x .records)) (n .records)) (length-keep-without (unentered (x .entries)) f (x .records)) n
-
-snoc-length : {A : Type 0} (l : List A) (x : A) → length (l ++ x ∷ []) ≡ suc (length l)
-snoc-length l x = let a = length-append l (x ∷ []) in omega arith
-
-one-length : {A : Type 0} (t : Bool) (x : A) → length (one t x) ≡ hit t
-one-length true x = refl
-one-length false x = refl
-
-tally-snoc : {A : Type 0} (g : A → Bool) (l : List A) (x : A) → length (keep g (l ++ x ∷ [])) ≡ length (keep g l) + hit (g x)
-tally-snoc g l x = ap length (keep-snoc g l x) ∙ length-append (keep g l) (one (g x) x) ∙ ap (λ (k : ℕ). length (keep g l) + k) (one-length (g x) x)
 
 -- an unlink opens
 pub neat-unlink : (x : Partition) (r : Record) → r .kind ≡ Unlink → length (x .records) < 16 → Neat x → Neat (withRecords x (x .records ++ r ∷ []))
@@ -113,9 +103,6 @@ neat-shrink x f n =
     }
 
 -- entries come and go
-single : {A : Type 0} (g : A → Bool) (x : A) → length (keep g (x ∷ [])) ≡ hit (g x)
-single g x = tally g x [] ∙ (unfold keep in (omega arith))
-
 pub neat-enter : (x : Partition) (e : Entry) (r : Record) → keep (standsUnder (e .directory) (e .name)) (x .entries) ≡ [] → keep (entryBears (e .number)) (x .entries) ≡ []
     → keep (recordBears (e .number)) (x .records) ≡ r ∷ [] → r .number ≡ e .number → adds (r .kind) ≡ true → Neat x → Neat (withEntries x (x .entries ++ e ∷ []))
 unfolding claimed

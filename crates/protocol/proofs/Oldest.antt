@@ -11,9 +11,9 @@ use Rattle.protocol.specs.Answers.{accepted, check}
 use Rattle.protocol.specs.Deliver.{deliver, deliverOldest, land, receive}
 use Rattle.protocol.specs.Elements.{Body, Kind, Message, No, NoBecause, Request, Yes, isRequest}
 use Rattle.protocol.specs.Tables.{Model, isPartition, partition, queue, setQueue}
-use Rattle.lists.proofs.Keep.{keep-cons-same}
+use Rattle.lists.proofs.Keep.{keep-cons-same, one-cons}
 use Rattle.lists.proofs.Tests.{and-left, and-right, byTest, no-true}
-use Rattle.protocol.proofs.Changes.{no-step, one-cons}
+use Rattle.protocol.proofs.Changes.{no-step}
 use Rattle.protocol.proofs.Content.{Content, DownsRest, home, letters, messageAt, out}
 use Rattle.protocol.proofs.Look.{Shape, at, up-in}
 use Rattle.protocol.proofs.Numbers.{about}

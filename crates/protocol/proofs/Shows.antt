@@ -3,7 +3,6 @@ use mathlib.Core.Bool.{Bool, _&&_, _||_, false, not, true}
 use mathlib.Core.List.{List, List·Memᴰ, List·Memᴰ·eq-of-singleton, List·Memᴰ·not-nil, [], _∷_, nil≢cons}
 use mathlib.Core.Path.{_∙_, _≡_, ap, ap₂, refl, subst, sym}
 use Prim.Native.Nat.{_+_, _<_, _≤_, ℕ}
-use native.Mathlib.Nat.{le-refl}
 use native.Mathlib.Omega.{arith}
 use lib.Dec.{eqb, leb, lit≤}
 use lib.ListN.{List·getD-eq-default, length}
@@ -14,7 +13,7 @@ use Rattle.protocol.specs.Elements.{Backpointer, Body, Create, Entry, Ki
 use Rattle.protocol.specs.Order.{O1, O2, O3, O4, O5, O6, O7, backpointerInRange, backpointersApart, backpointersClash, eachPair, entriesApart, entryInRange, givenBy, giver, hasOneMessage, hasRecord, holder, inOrder, inRange, isAnswerTo, isRequestOf, matches, numbersGiven, partitionInRange, recordInRange, recordsApart, recordsClash, sentAs}
 use Rattle.protocol.specs.Tables.{Model, Partition, claimed, entryBears, isPartition, noPartition, partition, partitionCount, queue, recordBears, standsUnder}
 use Rattle.lists.proofs.Apart.{any-true, apart-or, few-apart}
-use Rattle.lists.proofs.Keep.{keep-cons-other, keep-cons-same}
+use Rattle.lists.proofs.Keep.{keep-cons-other, keep-cons-same, one-le}
 use Rattle.lists.proofs.Members.{all-true, keep-sub, mem-keep, one-mem, seen-mem}
 use Rattle.lists.proofs.Tests.{_also_, and-left, and-right, below-true, both-true, byTest, done, eqb-same, every-at, every-of, no-true, or-else}
 use Rattle.names.proofs.Laws.{name-same}
@@ -138,10 +137,6 @@ module _ (m : Model) (p n : ℕ) (c : Content) (a b : ℕ) where
       subst (λ (y′ : Message). hasRecord m a b y′ ≡ true) (sym (z .1)) (both-true (o .1) (rw (u .0, u .1, ea, eb) (sent-any c n k t (partition m p .records) v)))
 
 -- no more messages of a number than records
-one-le : {A : Type 0} (t : Bool) (x : A) → length (one t x) ≤ 1
-one-le true x = le-refl 1
-one-le false x = omega arith
-
 pub mail-le : (c : Content) (n p a b : ℕ) (w : Way) → length (letters c n p (mailOf w) a b) ≤ length (recsOf c n w)
 mail-le c n p a b idle = omega arith
 mail-le c n p a b (rests k s) = omega arith

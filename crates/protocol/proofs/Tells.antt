@@ -15,11 +15,11 @@ use Rattle.protocol.specs.Elements.{Backpointer, Body, Cleared, Create, 
 use Rattle.protocol.specs.Order.{O1, O2, O3, O4, O5, O6, O7, allReady, backpointerInRange, backpointersApart, backpointersClash, eachPair, entriesApart, entriesClash, entryInRange, givenBy, giver, hasOneMessage, hasRecord, holder, inOrder, inRange, isAnswerTo, isRequestOf, matches, numbersGiven, partitionInRange, recordInRange, recordsApart, recordsClash, roomKept, sentAs}
 use Rattle.protocol.specs.Tables.{Model, Partition, claimed, entryBears, inPlace, isPartition, noPartition, partition, queue, recordBears, standsUnder}
 use Rattle.lists.proofs.Apart.{any-mem, apart-few}
-use Rattle.lists.proofs.Keep.{kept}
+use Rattle.lists.proofs.Keep.{isNone-true, kept}
 use Rattle.lists.proofs.Members.{all-get, keep-mem, keep-nil, keep-same, mem-keep, seen-mem}
 use Rattle.lists.proofs.Tests.{and-left, and-right, below-at, bool-same, both-true, byTest, every-at, no-true, not-true, or-else, or-left, or-right}
 use Rattle.names.proofs.Laws.{name-true}
-use Rattle.protocol.proofs.Changes.{isNone-true, sent}
+use Rattle.protocol.proofs.Changes.{sent}
 use Rattle.protocol.proofs.Content.{AtRest, Blank, Content, Fine, letters, messageAt, recordAt, unready}
 use Rattle.protocol.proofs.Look.{Shape, at, place-true, stands-true}
 use Rattle.protocol.proofs.Neat.{Neat}

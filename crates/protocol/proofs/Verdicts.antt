@@ -14,33 +14,33 @@ use Rattle.lists.proofs.Tests.{byTest, no-true}
 -- a request from p that is x, at a partition with the back-pointers bs
 module _ (bs : List Backpointer) (p : ℕ) (x : Message) where
   pub data Judged : Kind → Verdict → Type 0 where
-    there : {k : Kind} → adds k ≡ true → (y : Backpointer) (ys : List Backpointer) → keep (inItsPlace p x) bs ≡ y ∷ ys → eqb (y .number) (x .number) ≡ true → Judged k (saysOnly Yes)
-    taken : {k : Kind} → adds k ≡ true → (y : Backpointer) (ys : List Backpointer) → keep (inItsPlace p x) bs ≡ y ∷ ys → eqb (y .number) (x .number) ≡ false → Judged k (saysOnly (NoBecause PlaceTaken))
-    refused : {k : Kind} → adds k ≡ true → keep (inItsPlace p x) bs ≡ [] → (why : Reason) → Judged k (saysOnly (NoBecause why))
-    added : {k : Kind} → adds k ≡ true → keep (inItsPlace p x) bs ≡ [] → length bs < 64 → Judged k addsIt
-    absent : {k : Kind} → adds k ≡ false → keep (isExactly p x) bs ≡ [] → Judged k (saysOnly No)
-    dropped : {k : Kind} → adds k ≡ false → Judged k dropsIt
+    placeOwn : {k : Kind} → adds k ≡ true → (y : Backpointer) (ys : List Backpointer) → keep (inItsPlace p x) bs ≡ y ∷ ys → eqb (y .number) (x .number) ≡ true → Judged k (saysOnly Yes)
+    placeOther : {k : Kind} → adds k ≡ true → (y : Backpointer) (ys : List Backpointer) → keep (inItsPlace p x) bs ≡ y ∷ ys → eqb (y .number) (x .number) ≡ false → Judged k (saysOnly (NoBecause PlaceTaken))
+    refusing : {k : Kind} → adds k ≡ true → keep (inItsPlace p x) bs ≡ [] → (why : Reason) → Judged k (saysOnly (NoBecause why))
+    adding : {k : Kind} → adds k ≡ true → keep (inItsPlace p x) bs ≡ [] → length bs < 64 → Judged k addsIt
+    missing : {k : Kind} → adds k ≡ false → keep (isExactly p x) bs ≡ [] → Judged k (saysOnly No)
+    dropping : {k : Kind} → adds k ≡ false → Judged k dropsIt
 
   full-judged : (k : Kind) → adds k ≡ true → keep (inItsPlace p x) bs ≡ [] → (full : Bool) → leb 64 (length bs) ≡ full → Judged k (unlessFull full)
-  full-judged k a e true f = refused a e BackpointersFull
-  full-judged k a e false f = added a e (leb-false 64 (length bs) f)
+  full-judged k a e true f = refusing a e BackpointersFull
+  full-judged k a e false f = adding a e (leb-false 64 (length bs) f)
 
   add-judged : (k : Kind) → adds k ≡ true → keep (inItsPlace p x) bs ≡ [] → (os : List Backpointer) → Judged k (addVerdict k os (leb 64 (length bs)))
-  add-judged Link a e [] = refused a e ObjectIdle
+  add-judged Link a e [] = refusing a e ObjectIdle
   add-judged Link a e (o ∷ os) = full-judged Link a e (leb 64 (length bs)) refl
   add-judged Create a e [] = full-judged Create a e (leb 64 (length bs)) refl
-  add-judged Create a e (o ∷ os) = refused a e ObjectInUse
+  add-judged Create a e (o ∷ os) = refusing a e ObjectInUse
   add-judged Unlink a e os = no-true a refl
 
   place-judged : (k : Kind) → adds k ≡ true → (w : Verdict) → (keep (inItsPlace p x) bs ≡ [] → Judged k w)
       → (ys : List Backpointer) → keep (inItsPlace p x) bs ≡ ys → Judged k (placeVerdict x ys w)
   place-judged k a w f [] e = f e
   place-judged k a w f (y ∷ ys) e =
-      byTest (eqb (y .number) (x .number)) (λ t. rw t (there a y ys e t)) (λ t. rw t (taken a y ys e t))
+      byTest (eqb (y .number) (x .number)) (λ t. rw t (placeOwn a y ys e t)) (λ t. rw t (placeOther a y ys e t))
 
   drop-judged : (ys : List Backpointer) → keep (isExactly p x) bs ≡ ys → Judged Unlink (dropVerdict ys)
-  drop-judged [] e = absent refl e
-  drop-judged (y ∷ ys) e = dropped refl
+  drop-judged [] e = missing refl e
+  drop-judged (y ∷ ys) e = dropping refl
 
   pub judged : (k : Kind) → Judged k (verdictOf k bs p x)
   judged Link = place-judged Link refl _ (λ e. add-judged Link refl e (keep (ofObject (x .object)) bs)) (keep (inItsPlace p x) bs) refl

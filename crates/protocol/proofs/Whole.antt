@@ -10,6 +10,7 @@ use borrow.Author.Tests.{eqb-true}
 use Rattle.lists.specs.Lists.{pick}
 use Rattle.protocol.specs.Elements.{Backpointer, Body, Cleared, Create, Entry, Held, Kind, Link, Ready, Record, Refused, Sent, Stage, Unlink, bodyFits, isRequest, isSent, stageFits}
 use Rattle.protocol.specs.Tables.{Model, partition}
+use Rattle.lists.proofs.Keep.{single}
 use Rattle.lists.proofs.Tests.{and-left, and-right, byTest}
 use Rattle.protocol.proofs.Content.{Blank, Content, DownsRest, Fine, Mail, else-downs, else-view, fine-else, home, letters, out, recordAt, silent}
 use Rattle.protocol.proofs.Look.{Shape, at}
@@ -77,21 +78,27 @@ sound-else m m′ c (rests k t) e s = (fine-else e (s .0), s .1, s .2)
 sound-else m m′ c (asking k) e s = fine-else e s
 sound-else m m′ c (told k t) e s = (fine-else e (s .0), s .1, s .2)
 
--- another number, unchanged
-pub fit-else : {m m′ : Model} {p n : ℕ} → length (m′ .partitions) ≡ length (m .partitions) → (y : Fit m p n)
-    → View m′ p n (y .entries) (recsOf (y .what) n (y .way)) (y .backpointers) (letters (y .what) n p (mailOf (y .way))) → Fit m′ p n
-fit-else {m} {m′} e y v =
+-- the same entries and back-pointers, in tables of the same count
+pub refit : {m m′ : Model} {p n : ℕ} → length (m′ .partitions) ≡ length (m .partitions) → (y : Fit m p n) (w : Way) → Sound m (y .what) w
+    → View m′ p n (y .entries) (recsOf (y .what) n w) (y .backpointers) (letters (y .what) n p (mailOf w)) → Fit m′ p n
+refit {m} {m′} e y w so v =
     record {
       what = y .what;
-      way = y .way;
+      way = w;
       entries = y .entries;
       backpointers = y .backpointers;
       has = v;
-      sound = sound-else m m′ (y .what) (y .way) e (y .sound);
+      sound = sound-else m m′ (y .what) w e so;
       single = y .single;
       entriesFine = λ x i. fine-else e (y .entriesFine x i);
       backpointersFine = λ q b i. fine-else e (y .backpointersFine q b i);
     }
+
+-- another number, unchanged
+pub fit-else : {m m′ : Model} {p n : ℕ} → length (m′ .partitions) ≡ length (m .partitions) → (y : Fit m p n)
+    → View m′ p n (y .entries) (recsOf (y .what) n (y .way)) (y .backpointers) (letters (y .what) n p (mailOf (y .way))) → Fit m′ p n
+unfolding refit
+fit-else e y v = refit e y (y .way) (y .sound) v
 
 -- as many steps as the number still takes, at most
 abbrev pub restAdd : List Entry → Stage → ℕ
@@ -140,7 +147,7 @@ record Lies (m : Model) (p n w : ℕ) : Type 0 where
   is : load fit ≡ w
 
 fit-at : {m m′ : Model} {p n : ℕ} → Else m m′ p n → (x : Fit m′ p n) (p′ n′ : ℕ) (y : Fit m p′ n′) (b : Bool) → here p n p′ n′ ≡ b → Lies m′ p′ n′ (pick b (load x) (load y))
-unfolding fit-else
+unfolding fit-else refit
 fit-at {m′} {p} {n} o x p′ n′ y true e = rw (eqb-true n′ n (and-right (eqb p′ p) _ e), eqb-true p′ p (and-left _ _ e)) (record { fit = x; is = refl })
 fit-at o x p′ n′ y false e = record { fit = fit-else (o .count) y (else-view o e (y .has)); is = refl }
 
