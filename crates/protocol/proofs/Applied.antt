@@ -3,14 +3,15 @@ use mathlib.Core.Bool.{Bool, false, true}
 use mathlib.Core.List.{List, [], _∷_}
 use mathlib.Core.Path.{_∙_, _≡_, ap, refl, sym}
 use Rattle.protocol.specs.Answers.{Outcome, accepted, check, refuse}
-use Rattle.protocol.specs.Elements.{OutOfOrder}
-use Rattle.protocol.specs.Events.{Event, apply, bare, passes, run, tests}
+use Rattle.protocol.specs.Claims.{ToldLast}
+use Rattle.protocol.specs.Elements.{OutOfOrder, isOther}
+use Rattle.protocol.specs.Events.{Advancing, Crashing, Creating, Cutting, Delivering, Event, Linking, Opening, Recovering, Unlinking, apply, bare, passes, run, tests}
 use Rattle.protocol.specs.Order.{inOrder}
 use Rattle.protocol.specs.Tables.{Model}
 use Rattle.lists.proofs.Tests.{byTest, no-true}
 use Rattle.protocol.proofs.Kept.{keeps-order}
 use Rattle.protocol.proofs.Look.{at}
-use Rattle.protocol.proofs.Refusals.{Fair, event-fair, fair-kept, fair-order, isOutOfOrder, untested-fair}
+use Rattle.protocol.proofs.Refusals.{Fair, Says, event-fair, fair-kept, fair-order, fair-reply, isOutOfOrder, untested-fair}
 use Rattle.protocol.proofs.Tells.{order-whole}
 
 passes-true : (t : Bool) (m : Model) → inOrder m ≡ true → passes t m ≡ true
@@ -44,6 +45,23 @@ refused-keeps e m a =
     rw q (fair-kept (fair e (tests e) refl t) (ap accepted (sym q) ∙ a)))
     (λ t. rw t refl)
   where
-    fair : (e : Event) (b : Bool) → tests e ≡ b → passes (tests e) m ≡ true → Fair m (bare e m)
+    fair : (e : Event) (b : Bool) → tests e ≡ b → passes (tests e) m ≡ true → Fair m (Says m e) (bare e m)
     fair e true b t = event-fair m e (order-whole m (rw b at t))
     fair e false b t = untested-fair m e b
+
+-- a failure is told only by the advance that closes or turns its record
+pub told-last : (e : Event) (m : Model) → inOrder m ≡ true → isOther (apply e m .answer .reply) ≡ true → ToldLast e (apply e m .model)
+told-last e m o h =
+    let q : apply e m ≡ bare e m = apply-is e m o in
+    rw q (go e (fair-reply (event-fair m e (order-whole m o)) (ap (λ (y : Outcome). isOther (y .answer .reply)) (sym q) ∙ h)) (ap (λ (y : Outcome). isOther (y .answer .reply)) (sym q) ∙ h))
+  where
+    go : (e : Event) → Says m e (bare e m .answer .reply) (bare e m .model) → isOther (bare e m .answer .reply) ≡ true → ToldLast e (bare e m .model)
+    go (Linking p d s q o) f h = no-true h f
+    go (Creating p d s q o) f h = no-true h f
+    go (Unlinking p d s) f h = no-true h f
+    go (Advancing p n) f h = f h
+    go (Delivering s r) f h = no-true h f
+    go (Cutting a b) f h = no-true h f
+    go (Crashing p) f h = no-true h f
+    go (Recovering p) f h = no-true h f
+    go (Opening k) f h = no-true h f

@@ -1,21 +1,21 @@
 -- The starred cases and the worked rehearsal, computed.
-use mathlib.Core.Path.{_≡_, refl}
 use mathlib.Core.List.{map}
-use Rattle.lists.specs.Lists.{every, below, each, all, any, apart, keep, without, mapIf, mapFrom, total}
-use Rattle.names.specs.Names.{goodName, sameBytes, sameName, nameOf}
+use mathlib.Core.Path.{_≡_, refl}
+use Rattle.lists.specs.Lists.{all, any, apart, below, each, every, keep, mapFrom, mapIf, total, without}
+use Rattle.names.specs.Names.{goodName, nameOf, sameBytes, sameName}
 use Rattle.names.specs.Text.{bytes}
-use Rattle.protocol.specs.Tables.{noPartition, partition, queue, claimed, setPartition, setQueue, setUp, changeEntries, changeBackpointers, changeRecords, giveNumber, send, freshPartition, fresh, totals}
-use Rattle.protocol.specs.Order.{inRange, partitionInRange, O1, O2, O3, O4, O5, O6, O7, givenBy, numbersGiven, matches, inOrder}
+use Rattle.protocol.specs.Advance.{advance, next, perform}
 use Rattle.protocol.specs.Answers.{check}
-use Rattle.protocol.specs.Ask.{askTables, ask, unlink}
-use Rattle.protocol.specs.Advance.{next, perform, advance}
-use Rattle.protocol.specs.Deliver.{verdict, carryOut, deliver}
-use Rattle.protocol.specs.Faults.{lose, cut, crash, recover, openTables}
-use Rattle.protocol.specs.Events.{bare, apply, run, answers}
-use Rattle.protocol.specs.Settle.{advances, deliveries, firstAccepted, settleBy, stepsBy, settle}
+use Rattle.protocol.specs.Ask.{ask, askTables, unlink}
+use Rattle.protocol.specs.Deliver.{carryOut, deliver, verdict}
+use Rattle.protocol.specs.Events.{answers, apply, bare, run}
+use Rattle.protocol.specs.Example.{answered, left, schedule}
+use Rattle.protocol.specs.Faults.{crash, cut, lose, openTables, recover}
 use Rattle.protocol.specs.Lines.{lines}
-use Rattle.protocol.specs.Starred.{worked, starred}
-use Rattle.protocol.specs.Example.{schedule, answered, left}
+use Rattle.protocol.specs.Order.{O1, O2, O3, O4, O5, O6, O7, givenBy, inOrder, inRange, matches, numbersGiven, partitionInRange}
+use Rattle.protocol.specs.Settle.{advances, deliveries, firstAccepted, settle, settleBy, stepsBy}
+use Rattle.protocol.specs.Starred.{starred, worked}
+use Rattle.protocol.specs.Tables.{Model, changeBackpointers, changeEntries, changeRecords, claimed, fresh, freshPartition, giveNumber, noPartition, partition, queue, send, setPartition, setQueue, setUp, totals}
 
 -- every definition opened: a proof that names it computes with all of them
 unfoldable pub opened : Unit {0}
@@ -26,10 +26,10 @@ pub starred-cases : map worked starred ≡ starred
 unfolding opened
 starred-cases = refl
 
-pub rehearsed : lines schedule (fresh 1) ≡ answered
+pub rehearsed : (m : Model) → lines schedule m ≡ answered
 unfolding opened
-rehearsed = refl
+rehearsed m = refl
 
-pub rehearsed-left : totals (run schedule (fresh 1)) ≡ left
+pub rehearsed-left : (m : Model) → totals (run schedule m) ≡ left
 unfolding opened
-rehearsed-left = refl
+rehearsed-left m = refl

@@ -28,3 +28,4 @@ pub mod TiedEvents
 pub mod Safe
 pub mod Reached
 pub mod Examples
+pub mod Claimed

@@ -1,74 +1,104 @@
--- Every event on whole tables accepts, or refuses with the tables as they were and not because of their order.
-use mathlib.Core.Bool.{Bool, false, not, true}
-use mathlib.Core.List.{List, [], _∷_}
-use mathlib.Core.Path.{_≡_, ap, refl}
+-- Every event on whole tables accepts, or refuses with the tables as they were and not beca
+use mathlib.Core.Bool.{Bool, and-false, false, not, true}
+use mathlib.Core.List.{List, [], _∷_, map}
+use mathlib.Core.Path.{_∙_, _≡_, ap, refl, subst}
 use Prim.Native.Nat.{ℕ}
 use lib.Dec.{eqb}
-use Rattle.lists.specs.Lists.{keep}
+use borrow.Author.Tests.{eqb-true}
+use Rattle.lists.specs.Lists.{keep, mapIf, without}
 use Rattle.protocol.specs.Advance.{Next, advance, advanceFound, closes, enters, next, nextOf, nextToAdd, nextToRemove, perform, sends, stays, takesOut, turns}
 use Rattle.protocol.specs.Answers.{Outcome, accept, accepted, check, refuse}
 use Rattle.protocol.specs.Ask.{ask, askTables, unlink, unlinkFound}
 use Rattle.protocol.specs.Deliver.{deliver, deliverOldest}
-use Rattle.protocol.specs.Elements.{BadName, Cleared, Create, CutFromItself, Down, EntriesFull, Entry, Held, IsUp, Kind, Link, LogFull, Message, Name, NameAbsent, NameExists, NoRecord, NumbersSpent, OutOfRange, QueueEmpty, Ready, Record, RecordOpen, RecordSent, Refusal, Refused, Reply, Sent, Stage, TowardsDown, Unlink, adds, isAccepted, refusalNumber, stageFits}
+use Rattle.protocol.specs.Demands.{stillAdds}
+use Rattle.protocol.specs.Elements.{BadName, Cleared, Create, CutFromItself, Down, EntriesFull, Entry, Held, IsUp, Kind, Link, LogFull, Message, Name, NameAbsent, NameExists, NameTaken, NoRecord, NumbersSpent, OutOfRange, QueueEmpty, Ready, Record, RecordOpen, RecordSent, Refusal, Refused, Reply, Sent, Stage, TowardsDown, Unlink, adds, isAccepted, isOther, refusalNumber, stageFits}
 use Rattle.protocol.specs.Events.{Advancing, Crashing, Creating, Cutting, Delivering, Event, Linking, Opening, Recovering, Unlinking, bare, tests}
 use Rattle.protocol.specs.Faults.{crash, cut, openTables, recover}
-use Rattle.protocol.specs.Tables.{Model, partition, queue, recordBears, standsUnder}
-use Rattle.lists.proofs.Members.{seen-mem}
-use Rattle.lists.proofs.Tests.{no-true}
+use Rattle.protocol.specs.Tables.{Model, changeRecords, closeRecord, partition, queue, recordBears, standsUnder, turnRecord, turned}
+use Rattle.lists.proofs.Keep.{keep-cons-other, keep-mapIf-same, keep-without-same, kept}
+use Rattle.lists.proofs.Members.{keep-sub, seen-mem}
+use Rattle.lists.proofs.Tests.{and-left, no-true}
+use Rattle.protocol.proofs.Look.{part-same, up-in}
 use Rattle.protocol.proofs.Shows.{record-fits}
 use Rattle.protocol.proofs.Whole.{Whole}
 
 abbrev pub isOutOfOrder : Refusal → Bool
 isOutOfOrder r = eqb (refusalNumber r) 16
 
-pub data Fair (m : Model) : Outcome → Type 0 where
-  accepts : (n : ℕ) (r : Reply) (m′ : Model) → Fair m (accept n r m′)
-  refuses : (why : Refusal) → isOutOfOrder why ≡ false → isAccepted why ≡ false → Fair m (refuse why m)
+-- an outcome on the tables m; Q is said of the reply and the tables of an acceptance
+pub data Fair (m : Model) (Q : Reply → Model → Type 0) : Outcome → Type 0 where
+  accepts : (n : ℕ) (r : Reply) (m′ : Model) → Q r m′ → Fair m Q (accept n r m′)
+  refuses : (why : Refusal) → isOutOfOrder why ≡ false → isAccepted why ≡ false → Fair m Q (refuse why m)
 
--- what that says of an outcome
-pub fair-kept : {m : Model} {o : Outcome} → Fair m o → accepted o ≡ false → o ≡ refuse (o .answer .refusal) m
-fair-kept (accepts n r m′) e = no-true refl e
+pub fair-kept : {m : Model} {Q : Reply → Model → Type 0} {o : Outcome} → Fair m Q o → accepted o ≡ false → o ≡ refuse (o .answer .refusal) m
+fair-kept (accepts n r m′ x) e = no-true refl e
 fair-kept (refuses why s t) e = refl
 
-pub fair-order : {m : Model} {o : Outcome} → Fair m o → isOutOfOrder (o .answer .refusal) ≡ false
-fair-order (accepts n r m′) = refl
+pub fair-order : {m : Model} {Q : Reply → Model → Type 0} {o : Outcome} → Fair m Q o → isOutOfOrder (o .answer .refusal) ≡ false
+fair-order (accepts n r m′ x) = refl
 fair-order (refuses why s t) = s
 
+pub fair-reply : {m : Model} {Q : Reply → Model → Type 0} {o : Outcome} → Fair m Q o → isOther (o .answer .reply) ≡ true → Q (o .answer .reply) (o .model)
+fair-reply (accepts n r m′ x) e = x
+fair-reply (refuses why s t) e = no-true e refl
+
+-- no failure is told
+abbrev pub Quiet : Reply → Model → Type 0
+Quiet r m′ = isOther r ≡ false
+
+-- where a failure is told, no link or create record of p bears the number n any more
+abbrev pub Closed : ℕ → ℕ → Reply → Model → Type 0
+Closed p n r m′ = isOther r ≡ true → keep (stillAdds n) (partition m′ p .records) ≡ []
+
+still-bears : (n : ℕ) (l : List Record) → keep (stillAdds n) l ≡ keep (stillAdds n) (keep (recordBears n) l)
+still-bears n l = keep-sub (stillAdds n) (recordBears n) (λ r e. and-left _ _ e) l
+
+closed-none : (n : ℕ) (l : List Record) → keep (stillAdds n) (without (recordBears n) l) ≡ []
+closed-none n l = still-bears n (without (recordBears n) l) ∙ rw (keep-without-same (recordBears n) l) (unfold keep in refl)
+
+turned-none : (n : ℕ) (l : List Record) → keep (stillAdds n) (map turned l) ≡ []
+turned-none n [] = unfold keep in refl
+turned-none n (r ∷ l) = keep-cons-other (stillAdds n) (map turned l) (turned r) (and-false (eqb (r .number) n)) ∙ turned-none n l
+
+turn-none : (n : ℕ) (l : List Record) → keep (stillAdds n) (mapIf (recordBears n) turned l) ≡ []
+turn-none n l =
+    still-bears n (mapIf (recordBears n) turned l) ∙ rw (keep-mapIf-same (recordBears n) turned (λ r. refl) l) (turned-none n (keep (recordBears n) l))
+
 module _ (m : Model) where
-  fair-check : (t : Bool) (why : Refusal) (o : Outcome) → isOutOfOrder why ≡ false → isAccepted why ≡ false → Fair m o → Fair m (check t why m o)
+  fair-check : {Q : Reply → Model → Type 0} (t : Bool) (why : Refusal) (o : Outcome) → isOutOfOrder why ≡ false → isAccepted why ≡ false → (t ≡ true → Fair m Q o) → Fair m Q (check t why m o)
   unfolding check
-  fair-check true why o s a f = f
+  fair-check true why o s a f = f refl
   fair-check false why o s a f = refuses why s a
 
-  ask-fair : (k : Kind) (p d : ℕ) (s : Name) (q o : ℕ) → Fair m (ask k m p d s q o)
+  ask-fair : (k : Kind) (p d : ℕ) (s : Name) (q o : ℕ) → Fair m Quiet (ask k m p d s q o)
   unfolding ask askTables
   ask-fair k p d s q o =
-      fair-check _ OutOfRange _ refl refl (fair-check _ BadName _ refl refl (fair-check _ Down _ refl refl
-      (fair-check _ NameExists _ refl refl (fair-check _ NumbersSpent _ refl refl (fair-check _ LogFull _ refl refl (fair-check _ EntriesFull _ refl refl
-      (accepts _ _ _)))))))
+      fair-check _ OutOfRange _ refl refl λ e₁. fair-check _ BadName _ refl refl λ e₂. fair-check _ Down _ refl refl λ e₃.
+      fair-check _ NameExists _ refl refl λ e₄. fair-check _ NumbersSpent _ refl refl λ e₅. fair-check _ LogFull _ refl refl λ e₆. fair-check _ EntriesFull _ refl refl λ e₇.
+      accepts _ _ _ refl
 
-  unlink-found-fair : (p : ℕ) (es : List Entry) → Fair m (unlinkFound m p es)
+  unlink-found-fair : (p : ℕ) (es : List Entry) → Fair m Quiet (unlinkFound m p es)
   unlink-found-fair p [] = refuses NameAbsent refl refl
-  unlink-found-fair p (e ∷ es) = fair-check _ RecordOpen _ refl refl (fair-check _ LogFull _ refl refl (accepts _ _ _))
+  unlink-found-fair p (e ∷ es) = fair-check _ RecordOpen _ refl refl λ e₁. fair-check _ LogFull _ refl refl λ e₂. accepts _ _ _ refl
 
-  unlink-fair : (p d : ℕ) (s : Name) → Fair m (unlink m p d s)
+  unlink-fair : (p d : ℕ) (s : Name) → Fair m Quiet (unlink m p d s)
   unfolding unlink
   unlink-fair p d s =
-      fair-check _ OutOfRange _ refl refl (fair-check _ BadName _ refl refl (fair-check _ Down _ refl refl
-      (unlink-found-fair p (keep (standsUnder d s) (partition m p .entries)))))
-
-  perform-fair : (p : ℕ) (r : Record) (x : Next) → ((why : Refusal) → x ≡ stays why → why ≡ RecordSent) → Fair m (perform m p r x)
-  unfolding perform
-  perform-fair p r (closes reply) h = accepts _ _ _
-  perform-fair p r sends h = fair-check _ TowardsDown _ refl refl (accepts _ _ _)
-  perform-fair p r enters h = accepts _ _ _
-  perform-fair p r turns h = accepts _ _ _
-  perform-fair p r takesOut h = accepts _ _ _
-  perform-fair p r (stays why) h = rw (h why refl) (refuses RecordSent refl refl)
+      fair-check _ OutOfRange _ refl refl λ e₁. fair-check _ BadName _ refl refl λ e₂. fair-check _ Down _ refl refl λ e₃.
+      unlink-found-fair p (keep (standsUnder d s) (partition m p .entries))
 
   -- a stage that fits its kind stays only when it is sent
   abbrev OnlySent : Next → Type 0
   OnlySent x = (why : Refusal) → x ≡ stays why → why ≡ RecordSent
+
+  perform-fair : (p : ℕ) (r : Record) (x : Next) → partition m p .up ≡ true → OnlySent x → Fair m (Closed p (r .number)) (perform m p r x)
+  unfolding perform changeRecords
+  perform-fair p r (closes reply) u h = accepts (r .number) reply (closeRecord m p (r .number)) λ e. rw (part-same m p _ (up-in m p u)) (closed-none (r .number) (partition m p .records))
+  perform-fair p r sends u h = fair-check _ TowardsDown _ refl refl λ e. accepts _ _ _ λ f. no-true f refl
+  perform-fair p r enters u h = accepts _ _ _ λ f. no-true f refl
+  perform-fair p r turns u h = accepts (r .number) NameTaken (turnRecord m p (r .number)) λ e. rw (part-same m p _ (up-in m p u)) (turn-none (r .number) (partition m p .records))
+  perform-fair p r takesOut u h = accepts _ _ _ λ f. no-true f refl
+  perform-fair p r (stays why) u h = rw (h why refl) (refuses RecordSent refl refl)
 
   add-next : (k : Kind) → adds k ≡ true → (g : Stage) → stageFits k g ≡ true → (entered taken : Bool) → OnlySent (nextToAdd g entered taken)
   add-next k a Ready f true taken why e = cc
@@ -94,41 +124,55 @@ module _ (m : Model) where
   next-sent Create g f entered taken = add-next Create refl g f entered taken
   next-sent Unlink g f entered taken = remove-next g f entered
 
-  advance-found-fair : Whole m → (p n : ℕ) (rs : List Record) → keep (recordBears n) (partition m p .records) ≡ rs → Fair m (advanceFound m p rs)
+  advance-found-fair : Whole m → (p n : ℕ) → partition m p .up ≡ true → (rs : List Record) → keep (recordBears n) (partition m p .records) ≡ rs → Fair m (Closed p n) (advanceFound m p rs)
   unfolding next
-  advance-found-fair w p n [] e = refuses NoRecord refl refl
-  advance-found-fair w p n (r ∷ rs) e =
-      perform-fair p r _ (next-sent (r .kind) (r .stage) (record-fits m w p r (seen-mem (recordBears n) (partition m p .records) rs r e) .1) _ _)
+  advance-found-fair w p n u [] e = refuses NoRecord refl refl
+  advance-found-fair w p n u (r ∷ rs) e =
+      subst (λ (i : ℕ). Fair m (Closed p i) (perform m p r (next (partition m p) r))) (eqb-true _ _ (kept (recordBears n) (partition m p .records) r rs e))
+      (perform-fair p r _ u (next-sent (r .kind) (r .stage) (record-fits m w p r (seen-mem (recordBears n) (partition m p .records) rs r e) .1) _ _))
 
-  advance-fair : Whole m → (p n : ℕ) → Fair m (advance m p n)
+  advance-fair : Whole m → (p n : ℕ) → Fair m (Closed p n) (advance m p n)
   unfolding advance
-  advance-fair w p n = fair-check _ OutOfRange _ refl refl (fair-check _ Down _ refl refl (advance-found-fair w p n (keep (recordBears n) (partition m p .records)) refl))
+  advance-fair w p n =
+      fair-check _ OutOfRange _ refl refl λ e₁. fair-check _ Down _ refl refl λ e₂. advance-found-fair w p n e₂ (keep (recordBears n) (partition m p .records)) refl
 
-  oldest-fair : (s r : ℕ) (l : List Message) → Fair m (deliverOldest m s r l)
+  oldest-fair : (s r : ℕ) (l : List Message) → Fair m Quiet (deliverOldest m s r l)
   oldest-fair s r [] = refuses QueueEmpty refl refl
-  oldest-fair s r (x ∷ l) = accepts _ _ _
+  oldest-fair s r (x ∷ l) = accepts _ _ _ refl
 
-  deliver-fair : (s r : ℕ) → Fair m (deliver m s r)
+  deliver-fair : (s r : ℕ) → Fair m Quiet (deliver m s r)
   unfolding deliver
-  deliver-fair s r = fair-check _ OutOfRange _ refl refl (fair-check _ Down _ refl refl (oldest-fair s r (queue m s r)))
+  deliver-fair s r = fair-check _ OutOfRange _ refl refl λ e₁. fair-check _ Down _ refl refl λ e₂. oldest-fair s r (queue m s r)
 
-  cut-fair : (a b : ℕ) → Fair m (cut m a b)
+  cut-fair : (a b : ℕ) → Fair m Quiet (cut m a b)
   unfolding cut
-  cut-fair a b = fair-check _ OutOfRange _ refl refl (fair-check _ CutFromItself _ refl refl (fair-check _ Down _ refl refl (accepts _ _ _)))
+  cut-fair a b = fair-check _ OutOfRange _ refl refl λ e₁. fair-check _ CutFromItself _ refl refl λ e₂. fair-check _ Down _ refl refl λ e₃. accepts _ _ _ refl
 
-  crash-fair : (p : ℕ) → Fair m (crash m p)
+  crash-fair : (p : ℕ) → Fair m Quiet (crash m p)
   unfolding crash
-  crash-fair p = fair-check _ OutOfRange _ refl refl (fair-check _ Down _ refl refl (accepts _ _ _))
+  crash-fair p = fair-check _ OutOfRange _ refl refl λ e₁. fair-check _ Down _ refl refl λ e₂. accepts _ _ _ refl
 
-  recover-fair : (p : ℕ) → Fair m (recover m p)
+  recover-fair : (p : ℕ) → Fair m Quiet (recover m p)
   unfolding recover
-  recover-fair p = fair-check _ OutOfRange _ refl refl (fair-check _ IsUp _ refl refl (accepts _ _ _))
+  recover-fair p = fair-check _ OutOfRange _ refl refl λ e₁. fair-check _ IsUp _ refl refl λ e₂. accepts _ _ _ refl
 
-  open-fair : (k : ℕ) → Fair m (openTables m k)
+  open-fair : (k : ℕ) → Fair m Quiet (openTables m k)
   unfolding openTables
-  open-fair k = fair-check _ OutOfRange _ refl refl (accepts _ _ _)
+  open-fair k = fair-check _ OutOfRange _ refl refl λ e. accepts _ _ _ refl
 
-  pub event-fair : (e : Event) → Whole m → Fair m (bare e m)
+  -- what an acceptance of each event may say
+  abbrev pub Says : Event → Reply → Model → Type 0
+  Says (Linking p d s q o) = Quiet
+  Says (Creating p d s q o) = Quiet
+  Says (Unlinking p d s) = Quiet
+  Says (Advancing p n) = Closed p n
+  Says (Delivering s r) = Quiet
+  Says (Cutting a b) = Quiet
+  Says (Crashing p) = Quiet
+  Says (Recovering p) = Quiet
+  Says (Opening k) = Quiet
+
+  pub event-fair : (e : Event) → Whole m → Fair m (Says e) (bare e m)
   unfolding bare
   event-fair (Linking p d s q o) w = ask-fair Link p d s q o
   event-fair (Creating p d s q o) w = ask-fair Create p d s q o
@@ -141,7 +185,7 @@ module _ (m : Model) where
   event-fair (Opening k) w = open-fair k
 
   -- an open asks nothing of the tables
-  pub untested-fair : (e : Event) → tests e ≡ false → Fair m (bare e m)
+  pub untested-fair : (e : Event) → tests e ≡ false → Fair m (Says e) (bare e m)
   unfolding bare
   untested-fair (Linking p d s q o) t = no-true refl t
   untested-fair (Creating p d s q o) t = no-true refl t

@@ -1,21 +1,24 @@
 -- What is proved of these definitions: the statements that the contract of `claims` gathers.
 use mathlib.Core.Bool.{false, true}
-use mathlib.Core.List.{List}
+use mathlib.Core.List.{List, [], _∷_, map}
 use mathlib.Core.Logic.{_⊎_}
 use mathlib.Core.Path.{_≡_}
-use Prim.Native.Nat.{_*_, _≤_, ℕ}
+use Prim.Native.Nat.{_*_, _<_, _≤_, ℕ}
 use lib.ListN.{length}
 use Rattle.lists.specs.Lists.{all, keep}
-use Rattle.protocol.specs.Answers.{accepted}
-use Rattle.protocol.specs.Bounds.{maxPartitions}
-use Rattle.protocol.specs.Demands.{AllAccounted, AllUp, Matched, NamesHold, acceptedIn, isStep, openRecords}
-use Rattle.protocol.specs.Elements.{Accepted, Answer, OutOfOrder, Tally, isOne, isOther}
-use Rattle.protocol.specs.Events.{Event, answers, apply, bare, run}
+use Rattle.protocol.specs.Answers.{Outcome, accepted, refuse}
+use Rattle.protocol.specs.Ask.{ask, asked, unlink}
+use Rattle.protocol.specs.Bounds.{maxEntries, maxMessages, maxPartitions, maxRecords}
+use Rattle.protocol.specs.Deliver.{isExactly}
+use Rattle.protocol.specs.Demands.{AllAccounted, AllUp, Matched, NamesHold, acceptedIn, isStep, openRecords, stillAdds}
+use Rattle.protocol.specs.Elements.{Accepted, Answer, Kind, Message, Name, OutOfOrder, Record, Tally, adds, isOne, isOther, isRequest, isSent}
+use Rattle.protocol.specs.Events.{Advancing, Crashing, Creating, Cutting, Delivering, Event, Linking, Opening, Recovering, Unlinking, answers, apply, bare, run}
+use Rattle.protocol.specs.Example.{answered, left, schedule}
+use Rattle.protocol.specs.Lines.{lines}
 use Rattle.protocol.specs.Order.{inOrder}
 use Rattle.protocol.specs.Settle.{Settled, settle, settleBy, stepsBy, zeroTally}
-use Rattle.protocol.specs.Starred.{counts}
-use Rattle.protocol.specs.Tables.{Model, fresh}
-use Rattle.lists.proofs.Keep.{kept}
+use Rattle.protocol.specs.Starred.{counts, starred, worked}
+use Rattle.protocol.specs.Tables.{Model, entryBears, fresh, inPlace, partition, queue, recordBears, setQueue, standsUnder, totals}
 
 -- Claim 1, the order is kept: from any tables in order every event leaves tables in order and does not answer 16; and so does
 -- every sequence of events from a fresh start.
@@ -71,3 +74,60 @@ pub record Settling : Type 0 where
   pub empties : (n : ℕ) (t : Tally) (m : Model) → inOrder m ≡ true → AllUp m → 8 * openRecords m ≤ n → openRecords (settle n t m .model) ≡ 0
   -- sixteen records on each of four partitions, eight steps each
   pub small : (n : ℕ) (t : Tally) (m : Model) → inOrder m ≡ true → settle n t m .tally .steps ≤ 512
+
+-- Claim 5, "A refusal leaves the tables … unchanged, the tally too", and no number or reply comes with it.
+pub record RefusalsKeep : Type 0 where
+  pub event : (e : Event) (m : Model) → accepted (apply e m) ≡ false → apply e m ≡ refuse (apply e m .answer .refusal) m
+  pub settle : (n : ℕ) (t : Tally) (m : Model) → inOrder m ≡ false → settle n t m ≡ record { refusal = OutOfOrder; tally = t; model = m }
+
+-- a statement S of a call's inputs x and its outcome r has at most one outcome for each input
+abbrev pub Decides : {X R : Type 0} → (X → R → Type 0) → Type 0
+Decides {X} {R} S = (x : X) (a b : R) → S x a → S x b → a ≡ b
+
+-- and no two outcomes meet one statement
+pub record OneOutcome : Type 0 where
+  pub event : (e : Event) → Decides (λ (m : Model) (o : Outcome). o ≡ apply e m)
+  pub settle : (n : ℕ) (t : Tally) → Decides (λ (m : Model) (z : Settled). z ≡ settle n t m)
+
+-- after an event that tells of a failure, no link or create record bears its number
+abbrev pub ToldLast : Event → Model → Type 0
+ToldLast (Linking p d s q o) m = ⊥
+ToldLast (Creating p d s q o) m = ⊥
+ToldLast (Unlinking p d s) m = ⊥
+ToldLast (Advancing p n) m = keep (stillAdds n) (partition m p .records) ≡ []
+ToldLast (Delivering s r) m = ⊥
+ToldLast (Cutting a b) m = ⊥
+ToldLast (Crashing p) m = ⊥
+ToldLast (Recovering p) m = ⊥
+ToldLast (Opening k) m = ⊥
+
+-- The last of 'Readings that lose a file' is shut out: replies 2 to 6 come with the advance that closes or turns the record.
+pub record FailuresLast : Type 0 where
+  pub last : (e : Event) (m : Model) → inOrder m ≡ true → isOther (apply e m .answer .reply) ≡ true → ToldLast e (apply e m .model)
+
+-- Claim 6, the starred cases and the worked rehearsal, whose first line opens the tables whatever they were.
+pub record Cases : Type 0 where
+  pub starred : map worked starred ≡ starred
+  pub rehearsed : (m : Model) → lines schedule m ≡ answered
+  pub nothingLeft : (m : Model) → totals (run schedule m) ≡ left
+
+-- Claim 1's room: what code that has tested the order may rely on.
+pub record Room : Type 0 where
+  -- a queue to send in
+  pub request : (m : Model) → inOrder m ≡ true → (p n : ℕ) (r : Record) (rs : List Record) → keep (recordBears n) (partition m p .records) ≡ r ∷ rs
+      → isSent (r .stage) ≡ false → length (queue m p (r .partition)) < maxMessages
+  -- a queue to answer in, the request being taken out
+  pub answer : (m : Model) → inOrder m ≡ true → (s r : ℕ) (x : Message) (l : List Message) → s < maxPartitions → r < maxPartitions → queue m s r ≡ x ∷ l
+      → isRequest (x .body) ≡ true → length (queue (setQueue m s r l) r s) < maxMessages
+  -- a place for the entry
+  pub entry : (m : Model) → inOrder m ≡ true → (p n : ℕ) (r : Record) (rs : List Record) → keep (recordBears n) (partition m p .records) ≡ r ∷ rs
+      → adds (r .kind) ≡ true → keep (entryBears n) (partition m p .entries) ≡ [] → length (partition m p .entries) < maxEntries
+  -- a place for the record
+  pub asked : (k : Kind) (m : Model) (p d : ℕ) (s : Name) (q o : ℕ) → accepted (ask k m p d s q o) ≡ true → length (partition m p .records) < maxRecords
+  pub unlinked : (m : Model) (p d : ℕ) (s : Name) → accepted (unlink m p d s) ≡ true → length (partition m p .records) < maxRecords
+  -- one of each number, name and place
+  pub records : (m : Model) → inOrder m ≡ true → (p n : ℕ) → length (keep (recordBears n) (partition m p .records)) ≤ 1
+  pub entries : (m : Model) → inOrder m ≡ true → (p n : ℕ) → length (keep (entryBears n) (partition m p .entries)) ≤ 1
+  pub names : (m : Model) → inOrder m ≡ true → (p d : ℕ) (s : Name) → length (keep (standsUnder d s) (partition m p .entries)) ≤ 1
+  pub places : (m : Model) → inOrder m ≡ true → (q o p d : ℕ) (s : Name) → length (keep (inPlace o p d s) (partition m q .backpointers)) ≤ 1
+  pub removed : (m : Model) → inOrder m ≡ true → (q p : ℕ) (x : Message) → length (keep (isExactly p x) (partition m q .backpointers)) ≤ 1

@@ -1,15 +1,15 @@
 -- The words of the third demand: what is said of tables, and of a run of events.
-use mathlib.Core.Path.{_≡_}
+use mathlib.Core.Bool.{Bool, _&&_, false, true}
+use mathlib.Core.List.{List, List·Memᴰ}
 use mathlib.Core.Logic.{_⊎_}
-use mathlib.Core.Bool.{Bool, true, false, _&&_}
+use mathlib.Core.Path.{_≡_}
+use Prim.Native.Nat.{_<_, _≤_, ℕ}
 use lib.Dec.{eqb}
-use mathlib.Core.List.{List, [], _∷_, List·Memᴰ}
-use Prim.Native.Nat.{ℕ, _≤_, _<_}
 use lib.ListN.{length}
 use Rattle.lists.specs.Lists.{keep}
-use Rattle.protocol.specs.Elements.{Entry, Backpointer, Record, Answer, isAccepted}
-use Rattle.protocol.specs.Tables.{Model, partitionCount, partition, entryBears, totals}
-use Rattle.protocol.specs.Events.{Event, Linking, Creating, Unlinking, Advancing, Delivering, Cutting, Crashing, Recovering, Opening, answers}
+use Rattle.protocol.specs.Elements.{Answer, Backpointer, Entry, Record, adds, isAccepted}
+use Rattle.protocol.specs.Events.{Advancing, Crashing, Creating, Cutting, Delivering, Event, Linking, Opening, Recovering, Unlinking, answers}
+use Rattle.protocol.specs.Tables.{Model, entryBears, partition, partitionCount, recordBears, totals}
 
 -- ---- names and back-pointers
 
@@ -70,3 +70,7 @@ isStep (Opening k) = false
 -- how many of these events are accepted, one after the other
 unfoldable pub acceptedIn : List Event → Model → ℕ
 acceptedIn es m = length (keep (λ (a : Answer). isAccepted (a .refusal)) (answers es m))
+
+-- a link or create record that bears the number
+abbrev pub stillAdds : ℕ → Record → Bool
+stillAdds n r = recordBears n r && adds (r .kind)

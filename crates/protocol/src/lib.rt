@@ -1,5 +1,6 @@
 // The service's elements, as document 01, 'The tables' and 'Numbers returned', names them, and what is proved of the
 // definitions in specs/: the contract of `claims` states it, and the function does nothing.
+ghost use Rattle.protocol.specs.Claims.{OrderKept, Safety, Settles, Settling, RefusalsKeep, OneOutcome, FailuresLast, Cases, Room};
 use names::Name;
 
 pub enum Kind {
@@ -119,3 +120,7 @@ pub struct Tally {
     pub ones: u32,
     pub others: u32,
 }
+
+pub fn claims()
+    ensures { λ r. ⌜ OrderKept × Safety × Settles × Settling × RefusalsKeep × OneOutcome × FailuresLast × Cases × Room ⌝ }
+{}
