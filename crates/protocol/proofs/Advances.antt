@@ -13,7 +13,7 @@ use Rattle.protocol.specs.Tables.{Model, closeRecord, isPartition, parti
 use Rattle.lists.proofs.Tests.{byTest, no-true}
 use Rattle.protocol.proofs.Changes.{alter-else, alter-view, close-else, close-view, enter-else, enter-view, leave-else, leave-view, no-step, sent, sent-else, sent-view}
 use Rattle.protocol.proofs.Content.{Content, Fine, entryAt, letters, recordAt}
-use Rattle.protocol.proofs.Look.{Shape, at}
+use Rattle.protocol.proofs.Look.{Shape}
 use Rattle.protocol.proofs.Moves.{move}
 use Rattle.protocol.proofs.Neat.{neat-enter, neat-turn}
 use Rattle.protocol.proofs.Numbers.{View}

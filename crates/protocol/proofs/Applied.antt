@@ -10,7 +10,6 @@ use Rattle.protocol.specs.Order.{inOrder}
 use Rattle.protocol.specs.Tables.{Model}
 use Rattle.lists.proofs.Tests.{byTest, no-true}
 use Rattle.protocol.proofs.Kept.{keeps-order}
-use Rattle.protocol.proofs.Look.{at}
 use Rattle.protocol.proofs.Refusals.{Fair, Says, event-fair, fair-kept, fair-order, fair-reply, isOutOfOrder, untested-fair}
 use Rattle.protocol.proofs.Tells.{order-whole}
 

@@ -18,7 +18,7 @@ use Rattle.lists.proofs.Keep.{keep-cons-other, keep-cons-same, keep-mapIf-other
 use Rattle.lists.proofs.Tests.{and-left, and-right, both-true, byTest, eqb-same, no-true}
 use Rattle.names.proofs.Laws.{name-same}
 use Rattle.protocol.proofs.Content.{AtRest, Content, DownsRest, Fine, backpointerAt, home, letters, messageAt, out, recordAt, unready}
-use Rattle.protocol.proofs.Look.{Shape, at, part-field, place-true, up-in}
+use Rattle.protocol.proofs.Look.{Shape, isQueue, part-field, place-true, up-in}
 use Rattle.protocol.proofs.Neat.{Neat, neat-close, neat-grow, neat-leave, neat-shrink, neat-stage}
 use Rattle.protocol.proofs.Numbers.{Else, View, about, backs-else, backs-view, else-trans, entries-else, entries-view, here, queue-else, queue-part, queue-view, records-else, records-view}
 
@@ -77,9 +77,9 @@ module _ (m : Model) (p n a b : ℕ) (s : Shape m) (ha : partition m a .up ≡ t
       (λ p′ n′ e. keep-snoc-other (about a b p′ n′) (queue m a b) x (apart-about p n p′ n′ e (giver (x .body) a b) (x .number) is))
 
   pub push-view : {E : List Entry} {R : List Record} {B : ℕ → List Backpointer}
-      → View m p n E R B (λ a b. []) → View (send m a b x) p n E R B (λ a′ b′. one (at a b a′ b′) x)
+      → View m p n E R B (λ a b. []) → View (send m a b x) p n E R B (λ a′ b′. one (isQueue a b a′ b′) x)
   unfolding send
-  push-view v = queue-view m p n a b s ha hb (queue m a b ++ x ∷ []) v (λ a′ b′. one (at a b a′ b′) x)
+  push-view v = queue-view m p n a b s ha hb (queue m a b ++ x ∷ []) v (λ a′ b′. one (isQueue a b a′ b′) x)
       (keep-snoc (about a b p n) (queue m a b) x ∙ rw (v .messages a b (let k = s .partitions in let l = up-in m b hb in omega arith), is, eqb-same a, eqb-same b) refl)
       (λ a′ b′ e. rw e refl)
 
@@ -114,7 +114,7 @@ module _ (m : Model) (p n a b : ℕ) (s : Shape m) (ha : partition m a .up ≡ t
 
   -- it was the only one of its number
   pub pop-view : about a b p n x ≡ true → {E : List Entry} {R : List Record} {B : ℕ → List Backpointer} (M : ℕ → ℕ → List Message) (y : Message)
-      → M a b ≡ y ∷ [] → ((a′ b′ : ℕ) → at a b a′ b′ ≡ false → M a′ b′ ≡ []) → View m p n E R B M → View (setQueue m a b l) p n E R B (λ a′ b′. [])
+      → M a b ≡ y ∷ [] → ((a′ b′ : ℕ) → isQueue a b a′ b′ ≡ false → M a′ b′ ≡ []) → View m p n E R B M → View (setQueue m a b l) p n E R B (λ a′ b′. [])
   pop-view is M y e o v = queue-view m p n a b s ha hb l v (λ a′ b′. [])
       (tail-eq-of-cons-eq (sym (keep-cons-same (about a b p n) l x is) ∙ ap (keep (about a b p n)) (sym q) ∙ v .messages a b (let k = s .partitions in let l = up-in m b hb in omega arith) ∙ e)) o
 

@@ -21,7 +21,7 @@ use Rattle.lists.proofs.Tests.{both-true, byTest, eqb-same, no-true}
 use Rattle.protocol.proofs.Changes.{alter-else, alter-view, grow-else, home-else, home-view, out-else, out-view, say-else, say-view, shrink-else}
 use Rattle.protocol.proofs.Content.{Content, Fine, backpointerAt, fine-else, home, letters, messageAt, out, recordAt}
 use Rattle.protocol.proofs.Few.{answer-giver}
-use Rattle.protocol.proofs.Look.{Shape, at, part-other, part-same, up-in}
+use Rattle.protocol.proofs.Look.{Shape, part-other, part-same, up-in}
 use Rattle.protocol.proofs.Moves.{Moves, move}
 use Rattle.protocol.proofs.Neat.{neat-stage}
 use Rattle.protocol.proofs.Numbers.{Else, View, about, backs-view, else-trans}

@@ -7,7 +7,7 @@ use native.Mathlib.Omega.{arith}
 use lib.Dec.{eqb, ltb}
 use lib.ListN.{length}
 use borrow.Author.Tests.{eq-eqb, ltb-false, ltb-true}
-use Rattle.lists.specs.Lists.{each, keep}
+use Rattle.lists.specs.Lists.{keep}
 use Rattle.protocol.specs.Elements.{Body, Message, No, NoBecause, Record, Request, Yes, isRequest}
 use Rattle.protocol.specs.Order.{giver}
 use Rattle.protocol.specs.Tables.{Model, partition, queue, recordBears}

@@ -24,7 +24,7 @@ use Rattle.protocol.proofs.Advances.{advance-moved}
 use Rattle.protocol.proofs.Changes.{Plain, check-keeps, grown-view, no-step, plain-downs, plain-view, raised, raised-neat, raised-plain}
 use Rattle.protocol.proofs.Content.{AtRest, Blank, Content, DownsRest, Mail, fine-else, letters, recordAt, silent, unready}
 use Rattle.protocol.proofs.Deliveries.{deliver-moved}
-use Rattle.protocol.proofs.Look.{at, part-field, part-other, part-same, up-in}
+use Rattle.protocol.proofs.Look.{part-field, part-other, part-same, up-in}
 use Rattle.protocol.proofs.Losses.{blank-neat, count-lose, crash-down, fresh-blank, fresh-none, fresh-one, fresh-part, fresh-queue, fresh-shape, lose-down, lose-shape, lose-up, lose-view, nil, part-lose, recast}
 use Rattle.protocol.proofs.Lost.{Evenly, crash-evenly, cut-evenly, lost-at, relapse}
 use Rattle.protocol.proofs.Moves.{Moves}

@@ -53,22 +53,22 @@ module _ (m : Model) (p : ℕ) (x : Partition) (h : p < length (m .partitions)) 
   part-field g e q = part-cases g (g (partition m q)) q (λ t. rw t e) (λ t. refl)
 
 -- the queue from a to b is that from a' to b'
-abbrev pub at : ℕ → ℕ → ℕ → ℕ → Bool
-at a b a′ b′ = eqb a′ a && eqb b′ b
+abbrev pub isQueue : ℕ → ℕ → ℕ → ℕ → Bool
+isQueue a b a′ b′ = eqb a′ a && eqb b′ b
 
 module _ (m : Model) (a b : ℕ) (l : List Message) (ha : a < 4) (hb : b < 4) (hq : length (m .queues) ≡ 16) where
   pub queue-same : queue (setQueue m a b l) a b ≡ l
   unfolding queue setQueue
   queue-same = getD-set-same (m .queues) (a * 4 + b) l [] (omega arith)
 
-  pub queue-other : (a′ b′ : ℕ) → b′ < 4 → at a b a′ b′ ≡ false → queue (setQueue m a b l) a′ b′ ≡ queue m a′ b′
+  pub queue-other : (a′ b′ : ℕ) → b′ < 4 → isQueue a b a′ b′ ≡ false → queue (setQueue m a b l) a′ b′ ≡ queue m a′ b′
   unfolding queue setQueue
   queue-other a′ b′ h e = getD-set-other (m .queues) (a * 4 + b) (a′ * 4 + b′) l []
       (λ t. no-true (ap₂ _&&_ (eq-eqb a′ a (omega arith)) (eq-eqb b′ b (omega arith))) e)
 
   pub queue-cases : {B : Type 0} (g : List Message → B) (v : B) (a′ b′ : ℕ) → b′ < 4
-      → (a′ ≡ a → b′ ≡ b → g l ≡ v) → (at a b a′ b′ ≡ false → g (queue m a′ b′) ≡ v) → g (queue (setQueue m a b l) a′ b′) ≡ v
+      → (a′ ≡ a → b′ ≡ b → g l ≡ v) → (isQueue a b a′ b′ ≡ false → g (queue m a′ b′) ≡ v) → g (queue (setQueue m a b l) a′ b′) ≡ v
   queue-cases g v a′ b′ h s o =
-      byTest (at a b a′ b′)
+      byTest (isQueue a b a′ b′)
       (λ t. let ea : a′ ≡ a = eqb-true a′ a (and-left _ _ t) in let eb : b′ ≡ b = eqb-true b′ b (and-right (eqb a′ a) _ t) in rw (ea, eb, queue-same) (s ea eb))
       (λ t. rw (queue-other a′ b′ h t) (o t))

@@ -13,7 +13,7 @@ use Rattle.protocol.specs.Elements.{Backpointer, Entry, Name, Record, St
 use Rattle.protocol.specs.Tables.{Model, Partition, claimed, entryBears, inPlace, inStage, partition, recordBears, setPartition, standsUnder, turned, unentered, withBackpointers, withEntries, withRecords}
 use Rattle.lists.proofs.Keep.{keep-cong, keep-snoc, keep-snoc-other, keep-without-other, length-keep-mapIf, length-keep-without, length-mapIf, length-split, length-without, single, snoc-length, tally-snoc}
 use Rattle.lists.proofs.Tests.{byTest, eqb-same, hit, no-true}
-use Rattle.protocol.proofs.Look.{at, part-other, part-same, place-true, stands-true}
+use Rattle.protocol.proofs.Look.{part-other, part-same, place-true, stands-true}
 
 pub record Neat (x : Partition) : Type 0 where
   pub names : (d : ℕ) (s : Name) → length (keep (standsUnder d s) (x .entries)) ≤ 1

@@ -12,7 +12,7 @@ use Rattle.protocol.specs.Elements.{Backpointer, Entry, Message, Record}
 use Rattle.protocol.specs.Order.{giver}
 use Rattle.protocol.specs.Tables.{Model, Partition, changeBackpointers, changeEntries, changeRecords, entryBears, partition, queue, recordBears, setPartition, setQueue, withBackpointers, withEntries, withRecords}
 use Rattle.lists.proofs.Tests.{eqb-same, no-true}
-use Rattle.protocol.proofs.Look.{Shape, at, part-cases, part-field, queue-cases, up-in}
+use Rattle.protocol.proofs.Look.{Shape, isQueue, part-cases, part-field, queue-cases, up-in}
 use Rattle.protocol.proofs.Neat.{Neat, Neats, neat-set}
 
 abbrev pub here : ℕ → ℕ → ℕ → ℕ → Bool
@@ -209,7 +209,7 @@ module _ (m : Model) (p n a b : ℕ) (s : Shape m) (ua : partition m a .up ≡ t
       la i e = let k = s .partitions in let j = up-in m i e in omega arith
 
   pub queue-view : {E : List Entry} {R : List Record} {B : ℕ → List Backpointer} {M : ℕ → ℕ → List Message}
-      → View m p n E R B M → (M′ : ℕ → ℕ → List Message) → (keep (about a b p n) l ≡ M′ a b) → ((a′ b′ : ℕ) → at a b a′ b′ ≡ false → M a′ b′ ≡ M′ a′ b′)
+      → View m p n E R B M → (M′ : ℕ → ℕ → List Message) → (keep (about a b p n) l ≡ M′ a b) → ((a′ b′ : ℕ) → isQueue a b a′ b′ ≡ false → M a′ b′ ≡ M′ a′ b′)
       → View (setQueue m a b l) p n E R B M′
   queue-view v M′ e o =
       record {

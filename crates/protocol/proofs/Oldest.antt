@@ -15,7 +15,7 @@ use Rattle.lists.proofs.Keep.{keep-cons-same, one-cons}
 use Rattle.lists.proofs.Tests.{and-left, and-right, byTest, no-true}
 use Rattle.protocol.proofs.Changes.{no-step}
 use Rattle.protocol.proofs.Content.{Content, DownsRest, home, letters, messageAt, out}
-use Rattle.protocol.proofs.Look.{Shape, at, up-in}
+use Rattle.protocol.proofs.Look.{Shape, up-in}
 use Rattle.protocol.proofs.Numbers.{about}
 
 -- what an accepted delivery shows, where G is to be shown of the tables after it

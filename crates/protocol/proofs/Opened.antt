@@ -8,7 +8,6 @@ use borrow.Author.Tests.{ltb-true}
 use Rattle.lists.specs.Lists.{keep}
 use Rattle.protocol.specs.Ask.{ask, askTables, asked, unlink, unlinkFound, unlinkOf}
 use Rattle.protocol.specs.Elements.{Entry, Kind, Name, Ready, Record}
-use Rattle.protocol.specs.Settle.{found}
 use Rattle.protocol.specs.Tables.{Model, Partition, giveNumber, isPartition, openRecord, partition, recordBears, setPartition, standsUnder, withRecords}
 use Rattle.lists.proofs.Keep.{isNone-true}
 use Rattle.lists.proofs.Tests.{and-right}

@@ -24,7 +24,6 @@ use Rattle.protocol.proofs.Bound.{no-records}
 use Rattle.protocol.proofs.Changes.{no-step}
 use Rattle.protocol.proofs.Content.{Content, Fine, letters, messageAt, recordAt}
 use Rattle.protocol.proofs.Kept.{step-moves}
-use Rattle.protocol.proofs.Look.{at}
 use Rattle.protocol.proofs.Numbers.{View, about}
 use Rattle.protocol.proofs.Tells.{order-whole}
 use Rattle.protocol.proofs.Whole.{Fit, Sound, Way, Whole, asking, idle, mailOf, recsOf, rests, told}

@@ -21,7 +21,7 @@ use Rattle.lists.proofs.Tests.{and-left, and-right, both-true, byTest, eqb-same
 use Rattle.protocol.proofs.Changes.{no-step, out-view}
 use Rattle.protocol.proofs.Content.{Content, home, letters, messageAt, out, recordAt}
 use Rattle.protocol.proofs.Few.{Few, request-giver, room-home, room-out}
-use Rattle.protocol.proofs.Look.{at, queue-cases}
+use Rattle.protocol.proofs.Look.{isQueue, queue-cases}
 use Rattle.protocol.proofs.Numbers.{View, about, part-queue}
 use Rattle.protocol.proofs.Shows.{records-one, whole-few}
 use Rattle.protocol.proofs.Tells.{order-whole}
@@ -87,7 +87,7 @@ module _ (m : Model) (o : inOrder m ≡ true) where
         let f : Few m = whole-few m w in
         record {
           each = λ p n a′ b′ h. rw (part-queue m a b l p)
-              (byTest (at a b a′ b′)
+              (byTest (isQueue a b a′ b′)
               (λ t.
               let ea : a′ ≡ a = eqb-true a′ a (and-left _ _ t) in let eb : b′ ≡ b = eqb-true b′ b (and-right (eqb a′ a) _ t) in
               let e : keep (about a′ b′ p n) (queue popped a′ b′) ≡ keep (about a′ b′ p n) l =

@@ -13,7 +13,6 @@ use Rattle.protocol.specs.Tables.{Model, entryBears, partition, recordBe
 use Rattle.lists.proofs.Members.{mem-keep, one-mem, seen-mem}
 use Rattle.lists.proofs.Tests.{and-left, and-right, eqb-same}
 use Rattle.protocol.proofs.Content.{Content, backpointerAt, entryAt}
-use Rattle.protocol.proofs.Look.{at}
 use Rattle.protocol.proofs.Ties.{Tie, Ties, back-why, entry-back, rule}
 use Rattle.protocol.proofs.Whole.{recsOf}
 

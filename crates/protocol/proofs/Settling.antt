@@ -27,7 +27,6 @@ use Rattle.lists.proofs.Tests.{and-left, and-right, both-true, byTest, hit, no-
 use Rattle.protocol.proofs.Applied.{apply-is, apply-order, run-order}
 use Rattle.protocol.proofs.Bound.{accepted-more, bound}
 use Rattle.protocol.proofs.Changes.{no-step}
-use Rattle.protocol.proofs.Look.{at}
 use Rattle.protocol.proofs.Progress.{go-on, steps-up}
 use Rattle.protocol.proofs.Tells.{order-whole}
 use Rattle.protocol.proofs.Whole.{Whole}

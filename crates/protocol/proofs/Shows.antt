@@ -19,7 +19,7 @@ use Rattle.lists.proofs.Tests.{_also_, and-left, and-right, below-true, both-tr
 use Rattle.names.proofs.Laws.{name-same}
 use Rattle.protocol.proofs.Content.{Blank, Content, Fine, Mail, home, letters, messageAt, out, recordAt, unready}
 use Rattle.protocol.proofs.Few.{Few, answer-giver, queue-short, request-giver}
-use Rattle.protocol.proofs.Look.{Shape, at}
+use Rattle.protocol.proofs.Look.{Shape}
 use Rattle.protocol.proofs.Numbers.{View, about}
 use Rattle.protocol.proofs.Whole.{Fit, Sound, Way, Whole, asking, idle, mailOf, ofBackpointer, ofEntry, ofRecord, recsOf, rests, told}
 

@@ -21,7 +21,7 @@ use Rattle.lists.proofs.Tests.{and-left, and-right, below-at, bool-same, both-t
 use Rattle.names.proofs.Laws.{name-true}
 use Rattle.protocol.proofs.Changes.{sent}
 use Rattle.protocol.proofs.Content.{AtRest, Blank, Content, Fine, letters, messageAt, recordAt, unready}
-use Rattle.protocol.proofs.Look.{Shape, at, place-true, stands-true}
+use Rattle.protocol.proofs.Look.{Shape, place-true, stands-true}
 use Rattle.protocol.proofs.Neat.{Neat}
 use Rattle.protocol.proofs.Numbers.{about}
 use Rattle.protocol.proofs.Shows.{answers-about, asks-about}

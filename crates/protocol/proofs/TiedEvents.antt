@@ -17,7 +17,7 @@ use Rattle.lists.proofs.Keep.{alone, one-le}
 use Rattle.lists.proofs.Tests.{eqb-same}
 use Rattle.protocol.proofs.Changes.{Plain, check-keeps, grown-view, plain-view, raised, raised-plain}
 use Rattle.protocol.proofs.Content.{Blank, Content, entryAt, fine-else}
-use Rattle.protocol.proofs.Look.{Shape, at, up-in}
+use Rattle.protocol.proofs.Look.{Shape, up-in}
 use Rattle.protocol.proofs.Losses.{count-lose, fresh-blank, fresh-one}
 use Rattle.protocol.proofs.Lost.{Evenly, crash-evenly, cut-evenly, lost-at, relapse}
 use Rattle.protocol.proofs.Numbers.{Else, View, count-part}

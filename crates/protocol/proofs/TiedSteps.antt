@@ -22,7 +22,7 @@ use Rattle.protocol.proofs.Advances.{advance-cases, sent-stays}
 use Rattle.protocol.proofs.Changes.{alter-else, alter-view, close-else, close-view, enter-else, enter-view, exact-same, grow-else, grow-view, home-else, home-view, leave-else, leave-view, no-step, out-else, out-view, say-else, say-view, sent, sent-else, sent-view, shrink-else, shrink-view}
 use Rattle.protocol.proofs.Content.{Content, DownsRest, Fine, backpointerAt, entryAt, fine-else, messageAt, recordAt}
 use Rattle.protocol.proofs.Few.{answer-giver}
-use Rattle.protocol.proofs.Look.{Shape, at, place-true, up-in}
+use Rattle.protocol.proofs.Look.{Shape, place-true, up-in}
 use Rattle.protocol.proofs.Neat.{neat-enter, neat-stage, neat-turn}
 use Rattle.protocol.proofs.Numbers.{Else, View, about, else-trans, part-queue}
 use Rattle.protocol.proofs.Oldest.{deliver-cases, home-in, none-in, out-in}

@@ -10,10 +10,9 @@ use borrow.Author.Tests.{eqb-true}
 use Rattle.lists.specs.Lists.{pick}
 use Rattle.protocol.specs.Elements.{Backpointer, Body, Cleared, Create, Entry, Held, Kind, Link, Ready, Record, Refused, Sent, Stage, Unlink, bodyFits, isRequest, isSent, stageFits}
 use Rattle.protocol.specs.Tables.{Model, partition}
-use Rattle.lists.proofs.Keep.{single}
 use Rattle.lists.proofs.Tests.{and-left, and-right, byTest}
 use Rattle.protocol.proofs.Content.{Blank, Content, DownsRest, Fine, Mail, else-downs, else-view, fine-else, home, letters, out, recordAt, silent}
-use Rattle.protocol.proofs.Look.{Shape, at}
+use Rattle.protocol.proofs.Look.{Shape}
 use Rattle.protocol.proofs.Neat.{Neats}
 use Rattle.protocol.proofs.Numbers.{Else, View, here}
 

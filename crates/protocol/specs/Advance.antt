@@ -1,11 +1,11 @@
 -- Advance: the next step of one open record, and what it does (document 01, 'The nine events', 4).
-use mathlib.Core.Bool.{Bool, true, false}
+use mathlib.Core.Bool.{Bool, false, true}
 use mathlib.Core.List.{List, [], _∷_}
 use Prim.Native.Nat.{ℕ}
-use Rattle.lists.specs.Lists.{keep, isSome}
-use Rattle.protocol.specs.Elements.{Kind, Link, Create, Unlink, Stage, Ready, Sent, Held, Refused, Cleared, Request, Record, Reply, None, Done, NameTaken, Because, Refusal, OutOfRange, Down, NoRecord, RecordSent, TowardsDown, OutOfOrder}
-use Rattle.protocol.specs.Tables.{Partition, Model, isPartition, partition, entryBears, recordBears, standsUnder, messageOf, entryOf, setStage, turnRecord, closeRecord, enterName, takeOutName, send}
-use Rattle.protocol.specs.Answers.{Outcome, accept, refuse, check}
+use Rattle.lists.specs.Lists.{isSome, keep}
+use Rattle.protocol.specs.Answers.{Outcome, accept, check, refuse}
+use Rattle.protocol.specs.Elements.{Because, Cleared, Create, Done, Down, Held, Kind, Link, NameTaken, NoRecord, None, OutOfOrder, OutOfRange, Ready, Record, RecordSent, Refusal, Refused, Reply, Request, Sent, Stage, TowardsDown, Unlink}
+use Rattle.protocol.specs.Tables.{Model, Partition, closeRecord, enterName, entryBears, entryOf, isPartition, messageOf, partition, recordBears, send, setStage, standsUnder, takeOutName, turnRecord}
 
 pub data Next : Type 0 where
   closes : Reply → Next

@@ -1,16 +1,16 @@
 -- Link, create and unlink: an ask opens a ready record (document 01, 'The nine events', 1 to 3).
 use mathlib.Core.Bool.{_&&_}
 use mathlib.Core.List.{List, [], _∷_}
-use Prim.Native.Nat.{ℕ, suc}
+use Prim.Native.Nat.{suc, ℕ}
 use lib.Dec.{ltb}
 use lib.ListN.{length}
-use Rattle.lists.specs.Lists.{keep, isNone}
+use Rattle.lists.specs.Lists.{isNone, keep}
 use Rattle.names.specs.Names.{goodName}
-use Rattle.protocol.specs.Bounds.{maxEntries, maxRecords, largestNumber}
-use Rattle.protocol.specs.Elements.{Name, Kind, Unlink, Ready, Entry, Record, None, OutOfRange, BadName, Down, NameExists, NameAbsent, RecordOpen, LogFull, EntriesFull, NumbersSpent}
-use Rattle.protocol.specs.Tables.{Model, isPartition, isDirectory, partition, entryBears, recordBears, standsUnder, claimed, giveNumber, openRecord}
+use Rattle.protocol.specs.Answers.{Outcome, accept, check, refuse}
+use Rattle.protocol.specs.Bounds.{largestNumber, maxEntries, maxRecords}
+use Rattle.protocol.specs.Elements.{BadName, Down, EntriesFull, Entry, Kind, LogFull, Name, NameAbsent, NameExists, None, NumbersSpent, OutOfRange, Ready, Record, RecordOpen, Unlink}
 use Rattle.protocol.specs.Order.{inRange}
-use Rattle.protocol.specs.Answers.{Outcome, accept, refuse, check}
+use Rattle.protocol.specs.Tables.{Model, claimed, giveNumber, isDirectory, isPartition, openRecord, partition, recordBears, standsUnder}
 
 -- ---- link and create: partition p, directory d, name s, object o of partition q
 

@@ -7,7 +7,7 @@ use Prim.Native.Nat.{_*_, _<_, _≤_, ℕ}
 use lib.ListN.{length}
 use Rattle.lists.specs.Lists.{all, keep}
 use Rattle.protocol.specs.Answers.{Outcome, accepted, refuse}
-use Rattle.protocol.specs.Ask.{ask, asked, unlink}
+use Rattle.protocol.specs.Ask.{ask, unlink}
 use Rattle.protocol.specs.Bounds.{maxEntries, maxMessages, maxPartitions, maxRecords}
 use Rattle.protocol.specs.Deliver.{isExactly}
 use Rattle.protocol.specs.Demands.{AllAccounted, AllUp, Matched, NamesHold, acceptedIn, isStep, openRecords, stillAdds}
@@ -17,7 +17,7 @@ use Rattle.protocol.specs.Example.{answered, left, schedule}
 use Rattle.protocol.specs.Lines.{lines}
 use Rattle.protocol.specs.Order.{inOrder}
 use Rattle.protocol.specs.Settle.{Settled, settle, settleBy, stepsBy, zeroTally}
-use Rattle.protocol.specs.Starred.{counts, starred, worked}
+use Rattle.protocol.specs.Starred.{starred, worked}
 use Rattle.protocol.specs.Tables.{Model, entryBears, fresh, inPlace, partition, queue, recordBears, setQueue, standsUnder, totals}
 
 -- Claim 1, the order is kept: from any tables in order every event leaves tables in order and does not answer 16; and so does

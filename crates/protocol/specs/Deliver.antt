@@ -1,14 +1,14 @@
 -- Deliver: the oldest message from a sender to a receiver (document 01, 'The nine events', 5).
-use mathlib.Core.Bool.{Bool, true, false, _&&_}
+use mathlib.Core.Bool.{Bool, _&&_, false, true}
 use mathlib.Core.List.{List, [], _∷_}
 use Prim.Native.Nat.{ℕ}
 use lib.Dec.{eqb, leb}
 use lib.ListN.{length}
-use Rattle.lists.specs.Lists.{pick, keep}
+use Rattle.lists.specs.Lists.{keep, pick}
+use Rattle.protocol.specs.Answers.{Outcome, accept, check, refuse}
 use Rattle.protocol.specs.Bounds.{maxBackpointers}
-use Rattle.protocol.specs.Elements.{Kind, Link, Create, Unlink, PlaceTaken, ObjectIdle, ObjectInUse, BackpointersFull, Stage, Ready, Held, Refused, Cleared, Body, Request, Yes, No, NoBecause, Backpointer, Message, None, OutOfRange, Down, QueueEmpty}
-use Rattle.protocol.specs.Tables.{Partition, Model, isPartition, partition, queue, inPlace, setQueue, setStage, addBackpointer, dropBackpointer, send}
-use Rattle.protocol.specs.Answers.{Outcome, accept, refuse, check}
+use Rattle.protocol.specs.Elements.{Backpointer, BackpointersFull, Body, Cleared, Create, Down, Held, Kind, Link, Message, No, NoBecause, None, ObjectIdle, ObjectInUse, OutOfRange, PlaceTaken, QueueEmpty, Ready, Refused, Request, Stage, Unlink, Yes}
+use Rattle.protocol.specs.Tables.{Model, Partition, addBackpointer, dropBackpointer, inPlace, isPartition, partition, queue, send, setQueue, setStage}
 
 -- ---- a request, at the object's partition: what it answers, and what it does before
 

@@ -1,15 +1,15 @@
 -- The nine events as one type, the test that comes before each, and runs of events.
-use mathlib.Core.Bool.{Bool, true, false}
+use mathlib.Core.Bool.{Bool, false, true}
 use mathlib.Core.List.{List, [], _∷_}
 use Prim.Native.Nat.{ℕ}
-use Rattle.protocol.specs.Elements.{Name, Link, Create, Answer, OutOfOrder}
-use Rattle.protocol.specs.Tables.{Model}
-use Rattle.protocol.specs.Order.{inOrder}
+use Rattle.protocol.specs.Advance.{advance}
 use Rattle.protocol.specs.Answers.{Outcome, check}
 use Rattle.protocol.specs.Ask.{ask, unlink}
-use Rattle.protocol.specs.Advance.{advance}
 use Rattle.protocol.specs.Deliver.{deliver}
-use Rattle.protocol.specs.Faults.{cut, crash, recover, openTables}
+use Rattle.protocol.specs.Elements.{Answer, Create, Link, Name, OutOfOrder}
+use Rattle.protocol.specs.Faults.{crash, cut, openTables, recover}
+use Rattle.protocol.specs.Order.{inOrder}
+use Rattle.protocol.specs.Tables.{Model}
 
 pub data Event : Type 0 where
   Linking Creating : (p d : ℕ) (s : Name) (q o : ℕ) → Event

@@ -1,13 +1,13 @@
 -- Cut, crash, recover and open (document 01, 'The nine events', 6 to 9).
-use mathlib.Core.Bool.{Bool, true, false, _&&_, _||_, not}
-use mathlib.Core.List.{List, [], _∷_}
-use Prim.Native.Nat.{ℕ, _/_, _%_}
+use mathlib.Core.Bool.{Bool, _&&_, _||_, false, not, true}
+use mathlib.Core.List.{List, []}
+use Prim.Native.Nat.{_%_, _/_, ℕ}
 use lib.Dec.{eqb, leb}
-use Rattle.lists.specs.Lists.{pick, mapIf, mapFrom}
-use Rattle.protocol.specs.Bounds.{maxPartitions}
-use Rattle.protocol.specs.Elements.{Ready, Record, Message, None, OutOfRange, CutFromItself, Down, IsUp, isSent}
-use Rattle.protocol.specs.Tables.{Partition, Model, isPartition, partition, withRecords, inStage, setUp, fresh}
+use Rattle.lists.specs.Lists.{mapFrom, mapIf, pick}
 use Rattle.protocol.specs.Answers.{Outcome, accept, check}
+use Rattle.protocol.specs.Bounds.{maxPartitions}
+use Rattle.protocol.specs.Elements.{CutFromItself, Down, IsUp, Message, None, OutOfRange, Ready, Record, isSent}
+use Rattle.protocol.specs.Tables.{Model, Partition, fresh, inStage, isPartition, partition, setUp, withRecords}
 
 -- ---- what is lost: `relapses p r` says which records of partition p become ready, `empties s r` which queues are dropped
 

@@ -1,14 +1,14 @@
 -- Tables in order: O1 to O7 of document 01, each a test, and all of them together.
-use mathlib.Core.Bool.{Bool, true, false, _&&_, _||_, not}
-use mathlib.Core.List.{List, [], _∷_}
-use Prim.Native.Nat.{ℕ, _+_}
+use mathlib.Core.Bool.{Bool, _&&_, _||_, not}
+use mathlib.Core.List.{[], _∷_}
+use Prim.Native.Nat.{_+_, ℕ}
 use lib.Dec.{eqb, leb}
 use lib.ListN.{length}
-use Rattle.lists.specs.Lists.{every, below, all, any, apart, keep, isNone}
-use Rattle.names.specs.Names.{sameName, goodName}
-use Rattle.protocol.specs.Bounds.{maxPartitions, maxEntries, maxBackpointers, maxRecords, maxMessages, queueCount, largestNumber}
-use Rattle.protocol.specs.Elements.{Name, Body, Request, Yes, No, NoBecause, Entry, Backpointer, Record, Message, sameKind, isReady, isSent, isRequest, stageFits, bodyFits}
-use Rattle.protocol.specs.Tables.{Partition, Model, partitionCount, isPartition, isDirectory, isObject, partition, queue, entryBears, recordBears, standsUnder, inPlace, claimed}
+use Rattle.lists.specs.Lists.{all, any, apart, below, every, isNone, keep}
+use Rattle.names.specs.Names.{goodName, sameName}
+use Rattle.protocol.specs.Bounds.{largestNumber, maxBackpointers, maxEntries, maxMessages, maxPartitions, maxRecords, queueCount}
+use Rattle.protocol.specs.Elements.{Backpointer, Body, Entry, Message, No, NoBecause, Record, Request, Yes, bodyFits, isReady, isRequest, isSent, sameKind, stageFits}
+use Rattle.protocol.specs.Tables.{Model, Partition, claimed, entryBears, inPlace, isDirectory, isObject, isPartition, partition, partitionCount, queue, recordBears, standsUnder}
 
 abbrev pub eachPartition : Model → (ℕ → Bool) → Bool
 eachPartition m f = below (partitionCount m) f

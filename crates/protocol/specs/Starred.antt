@@ -1,15 +1,15 @@
 -- The starred cases of document 01, 'Either side of a line', as one table.
-use mathlib.Core.List.{List, [], _∷_, map}
+use mathlib.Core.List.{List, [], _∷_}
 use Prim.Native.Nat.{ℕ}
 use lib.ListN.{replicate}
 use Rattle.names.specs.Names.{nameOf}
 use Rattle.names.specs.Text.{spelled}
 use Rattle.protocol.specs.Bounds.{largestNumber}
 use Rattle.protocol.specs.Elements.{Name, Tally}
-use Rattle.protocol.specs.Tables.{Model, partition, setPartition, withLast, fresh}
-use Rattle.protocol.specs.Events.{Event, Linking, Creating, Opening, run, apply}
-use Rattle.protocol.specs.Settle.{zeroTally, settle, stepsBy}
+use Rattle.protocol.specs.Events.{Creating, Event, Linking, Opening, apply, run}
 use Rattle.protocol.specs.Lines.{Line, line, lines}
+use Rattle.protocol.specs.Settle.{settle, stepsBy, zeroTally}
+use Rattle.protocol.specs.Tables.{Model, fresh, partition, setPartition, withLast}
 
 -- Events on tables, then a settle of n: what the events answer, the tally, and what the settling steps answer
 pub record Case : Type 0 where

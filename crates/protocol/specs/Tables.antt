@@ -1,14 +1,14 @@
 -- The tables of the whole service as lists without padding, how they are read, and the few ways in which they change
 -- (document 01, 'The tables').
-use mathlib.Core.Bool.{Bool, true, false, _&&_}
-use mathlib.Core.List.{List, [], _∷_, _++_}
-use Prim.Native.Nat.{ℕ, suc, _+_, _*_}
+use mathlib.Core.Bool.{Bool, _&&_, false, true}
+use mathlib.Core.List.{List, [], _++_, _∷_}
+use Prim.Native.Nat.{_*_, _+_, suc, ℕ}
 use lib.Dec.{eqb, ltb}
-use lib.ListN.{length, getD, set, replicate}
-use Rattle.lists.specs.Lists.{keep, without, mapIf, isNone, total}
+use lib.ListN.{getD, length, replicate, set}
+use Rattle.lists.specs.Lists.{isNone, keep, mapIf, total, without}
 use Rattle.names.specs.Names.{sameName}
-use Rattle.protocol.specs.Bounds.{maxPartitions, directories, objects, queueCount}
-use Rattle.protocol.specs.Elements.{Name, Kind, Unlink, Stage, Ready, Body, Entry, Backpointer, Record, Message, adds}
+use Rattle.protocol.specs.Bounds.{directories, maxPartitions, objects, queueCount}
+use Rattle.protocol.specs.Elements.{Backpointer, Body, Entry, Message, Name, Ready, Record, Stage, Unlink, adds}
 
 -- "at most 64 entries, 64 back-pointers, 16 log records, and the last transaction number it gave"
 pub record Partition : Type 0 where
