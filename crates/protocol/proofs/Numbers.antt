@@ -12,7 +12,7 @@ use Rattle.protocol.specs.Elements.{Backpointer, Entry, Message, Record}
 use Rattle.protocol.specs.Order.{giver}
 use Rattle.protocol.specs.Tables.{Model, Partition, changeBackpointers, changeEntries, changeRecords, entryBears, partition, queue, recordBears, setPartition, setQueue, withBackpointers, withEntries, withRecords}
 use Rattle.lists.proofs.Tests.{eqb-same, no-true}
-use Rattle.protocol.proofs.Look.{Shape, isQueue, part-cases, part-field, queue-cases, up-in}
+use Rattle.protocol.proofs.Look.{Shape, isQueue, part-cases, part-field, part-same, queue-cases, up-in}
 use Rattle.protocol.proofs.Neat.{Neat, Neats, neat-set}
 
 abbrev pub here : ℕ → ℕ → ℕ → ℕ → Bool
@@ -83,99 +83,89 @@ pub part-queue : (m : Model) (a b : ℕ) (l : List Message) (q : ℕ) → partit
 unfolding setQueue partition
 part-queue m a b l q = refl
 
--- one of two facts
 pub here-num : (p n n′ : ℕ) → here p n p n′ ≡ false → eqb n′ n ≡ false
 here-num p n n′ e = rw eqb-same at e
 
+-- partition q, which is up, becomes x, and differs in p's number n alone
+pub record Differs (p n q : ℕ) (x y : Partition) : Type 0 where
+  pub up : x .up ≡ y .up
+  pub last : x .last ≡ y .last
+  pub neat : Neat y → Neat x
+  pub entries : (n′ : ℕ) → here p n q n′ ≡ false → keep (entryBears n′) (x .entries) ≡ keep (entryBears n′) (y .entries)
+  pub records : (n′ : ℕ) → here p n q n′ ≡ false → keep (recordBears n′) (x .records) ≡ keep (recordBears n′) (y .records)
+  pub backpointers : (p′ n′ : ℕ) → here p n p′ n′ ≡ false → keep (backpointerBears p′ n′) (x .backpointers) ≡ keep (backpointerBears p′ n′) (y .backpointers)
+
+part-else : (m : Model) (p n q : ℕ) → Shape m → partition m q .up ≡ true → (x : Partition) → Differs p n q x (partition m q) → Else m (setPartition m q x) p n
+part-else m p n q s u x d =
+    let h : q < length (m .partitions) = up-in m q u in
+    record {
+      shape = shape-part m q x s;
+      count = count-part m q x;
+      ups = part-field m q x h (λ (y : Partition). y .up) (d .up);
+      lasts = part-field m q x h (λ (y : Partition). y .last) (d .last);
+      neat = neat-set m q x h (d .neat);
+      still = λ r e. part-cases m q x h (λ (y : Partition). y .records) _ r (λ t. no-true u (rw t at e)) (λ t. refl);
+      quiet = λ a b hb e. queue-part m q x a b;
+      entries = λ p′ n′ e. part-cases m q x h (λ (y : Partition). keep (entryBears n′) (y .entries)) _ p′ (λ t. d .entries n′ (rw t at e) ∙ rw t refl) (λ t. refl);
+      records = λ p′ n′ e. part-cases m q x h (λ (y : Partition). keep (recordBears n′) (y .records)) _ p′ (λ t. d .records n′ (rw t at e) ∙ rw t refl) (λ t. refl);
+      backpointers = λ p′ n′ e. part-field m q x h (λ (y : Partition). keep (backpointerBears p′ n′) (y .backpointers)) (d .backpointers p′ n′ e);
+      messages = λ p′ n′ e a b hb. rw (queue-part m q x) refl;
+    }
+
 module _ (m : Model) (p n : ℕ) (s : Shape m) (u : partition m p .up ≡ true) where
+  -- what a partition holds of its own number n, and the others as they were
+  part-view : (x : Partition) {E : List Entry} {R : List Record} {B : ℕ → List Backpointer} {M : ℕ → ℕ → List Message}
+      → View m p n E R B M → (E′ : List Entry) (R′ : List Record) → keep (entryBears n) (x .entries) ≡ E′ → keep (recordBears n) (x .records) ≡ R′
+      → x .backpointers ≡ partition m p .backpointers → View (setPartition m p x) p n E′ R′ B M
+  part-view x v E′ R′ e r b =
+      let h : p < length (m .partitions) = up-in m p u in
+      record {
+        entries = ap (λ (y : Partition). keep (entryBears n) (y .entries)) (part-same m p x h) ∙ e;
+        records = ap (λ (y : Partition). keep (recordBears n) (y .records)) (part-same m p x h) ∙ r;
+        backpointers = λ q. part-field m p x h (λ (y : Partition). keep (backpointerBears p n) (y .backpointers)) (ap (keep (backpointerBears p n)) b) q ∙ v .backpointers q;
+        messages = λ a b hb. rw (queue-part m p x) (v .messages a b hb);
+      }
+
   -- records of p with the number n change
   module _ (f : List Record → List Record) where
-    pub records-else : (Neat (partition m p) → Neat (withRecords (partition m p) (f (partition m p .records)))) → ((n′ : ℕ) → eqb n′ n ≡ false → (l : List Record) → keep (recordBears n′) (f l) ≡ keep (recordBears n′) l) → Else m (changeRecords m p f) p n
+    pub records-else : (Neat (partition m p) → Neat (withRecords (partition m p) (f (partition m p .records))))
+        → ((n′ : ℕ) → eqb n′ n ≡ false → (l : List Record) → keep (recordBears n′) (f l) ≡ keep (recordBears n′) l) → Else m (changeRecords m p f) p n
     unfolding changeRecords
     records-else w o =
-        let x : Partition = withRecords (partition m p) (f (partition m p .records)) in
-        record {
-          shape = shape-part m p x s;
-          count = count-part m p x;
-          ups = part-field m p x (up-in m p u) (λ (y : Partition). y .up) refl;
-          lasts = part-field m p x (up-in m p u) (λ (y : Partition). y .last) refl;
-          neat = neat-set m p x (up-in m p u) w;
-          still = λ q e. part-cases m p x (up-in m p u) (λ (y : Partition). y .records) _ q (λ t. no-true u (rw t at e)) (λ t. refl);
-          quiet = λ a b hb e. queue-part m p x a b;
-          entries = λ p′ n′ e. part-field m p x (up-in m p u) (λ (y : Partition). keep (entryBears n′) (y .entries)) refl p′;
-          records = λ p′ n′ e. part-cases m p x (up-in m p u) (λ (y : Partition). keep (recordBears n′) (y .records)) _ p′
-              (λ t. o n′ (here-num p n n′ (rw t at e)) (partition m p .records) ∙ rw t refl) (λ t. refl);
-          backpointers = λ p′ n′ e. part-field m p x (up-in m p u) (λ (y : Partition). keep (backpointerBears p′ n′) (y .backpointers)) refl;
-          messages = λ p′ n′ e a b hb. rw (queue-part m p x) refl;
-        }
+        part-else m p n p s u _
+        (record { up = refl; last = refl; neat = w; entries = λ n′ e. refl; records = λ n′ e. o n′ (here-num p n n′ e) (partition m p .records); backpointers = λ p′ n′ e. refl })
 
     pub records-view : {E : List Entry} {R : List Record} {B : ℕ → List Backpointer} {M : ℕ → ℕ → List Message}
-        → View m p n E R B M → (R′ : List Record) → (keep (recordBears n) (f (partition m p .records)) ≡ R′) → View (changeRecords m p f) p n E R′ B M
+        → View m p n E R B M → (R′ : List Record) → keep (recordBears n) (f (partition m p .records)) ≡ R′ → View (changeRecords m p f) p n E R′ B M
     unfolding changeRecords
-    records-view v R′ e =
-        let x : Partition = withRecords (partition m p) (f (partition m p .records)) in
-        record {
-          entries = part-field m p x (up-in m p u) (λ (y : Partition). keep (entryBears n) (y .entries)) refl p ∙ v .entries;
-          records = part-cases m p x (up-in m p u) (λ (y : Partition). keep (recordBears n) (y .records)) R′ p (λ t. e) (λ t. no-true (eqb-same p) t);
-          backpointers = λ q. part-field m p x (up-in m p u) (λ (y : Partition). keep (backpointerBears p n) (y .backpointers)) refl q ∙ v .backpointers q;
-          messages = λ a b hb. rw (queue-part m p x) (v .messages a b hb);
-        }
+    records-view {E} v R′ e = part-view _ v E R′ (v .entries) e refl
 
   -- entries of p with the number n change
   module _ (f : List Entry → List Entry) where
-    pub entries-else : (Neat (partition m p) → Neat (withEntries (partition m p) (f (partition m p .entries)))) → ((n′ : ℕ) → eqb n′ n ≡ false → (l : List Entry) → keep (entryBears n′) (f l) ≡ keep (entryBears n′) l) → Else m (changeEntries m p f) p n
+    pub entries-else : (Neat (partition m p) → Neat (withEntries (partition m p) (f (partition m p .entries))))
+        → ((n′ : ℕ) → eqb n′ n ≡ false → (l : List Entry) → keep (entryBears n′) (f l) ≡ keep (entryBears n′) l) → Else m (changeEntries m p f) p n
     unfolding changeEntries
     entries-else w o =
-        let x : Partition = withEntries (partition m p) (f (partition m p .entries)) in
-        record {
-          shape = shape-part m p x s;
-          count = count-part m p x;
-          ups = part-field m p x (up-in m p u) (λ (y : Partition). y .up) refl;
-          lasts = part-field m p x (up-in m p u) (λ (y : Partition). y .last) refl;
-          neat = neat-set m p x (up-in m p u) w;
-          still = λ q e. part-field m p x (up-in m p u) (λ (y : Partition). y .records) refl q;
-          quiet = λ a b hb e. queue-part m p x a b;
-          entries = λ p′ n′ e. part-cases m p x (up-in m p u) (λ (y : Partition). keep (entryBears n′) (y .entries)) _ p′
-              (λ t. o n′ (here-num p n n′ (rw t at e)) (partition m p .entries) ∙ rw t refl) (λ t. refl);
-          records = λ p′ n′ e. part-field m p x (up-in m p u) (λ (y : Partition). keep (recordBears n′) (y .records)) refl p′;
-          backpointers = λ p′ n′ e. part-field m p x (up-in m p u) (λ (y : Partition). keep (backpointerBears p′ n′) (y .backpointers)) refl;
-          messages = λ p′ n′ e a b hb. rw (queue-part m p x) refl;
-        }
+        part-else m p n p s u _
+        (record { up = refl; last = refl; neat = w; entries = λ n′ e. o n′ (here-num p n n′ e) (partition m p .entries); records = λ n′ e. refl; backpointers = λ p′ n′ e. refl })
 
     pub entries-view : {E : List Entry} {R : List Record} {B : ℕ → List Backpointer} {M : ℕ → ℕ → List Message}
-        → View m p n E R B M → (E′ : List Entry) → (keep (entryBears n) (f (partition m p .entries)) ≡ E′) → View (changeEntries m p f) p n E′ R B M
+        → View m p n E R B M → (E′ : List Entry) → keep (entryBears n) (f (partition m p .entries)) ≡ E′ → View (changeEntries m p f) p n E′ R B M
     unfolding changeEntries
-    entries-view v E′ e =
-        let x : Partition = withEntries (partition m p) (f (partition m p .entries)) in
-        record {
-          entries = part-cases m p x (up-in m p u) (λ (y : Partition). keep (entryBears n) (y .entries)) E′ p (λ t. e) (λ t. no-true (eqb-same p) t);
-          records = part-field m p x (up-in m p u) (λ (y : Partition). keep (recordBears n) (y .records)) refl p ∙ v .records;
-          backpointers = λ q. part-field m p x (up-in m p u) (λ (y : Partition). keep (backpointerBears p n) (y .backpointers)) refl q ∙ v .backpointers q;
-          messages = λ a b hb. rw (queue-part m p x) (v .messages a b hb);
-        }
+    entries-view {R} v E′ e = part-view _ v E′ R e (v .records) refl
 
 -- back-pointers at q with the parent p and the number n change
 module _ (m : Model) (p n q : ℕ) (s : Shape m) (u : partition m q .up ≡ true) (f : List Backpointer → List Backpointer) where
-  pub backs-else : (Neat (partition m q) → Neat (withBackpointers (partition m q) (f (partition m q .backpointers)))) → ((p′ n′ : ℕ) → here p n p′ n′ ≡ false → (l : List Backpointer) → keep (backpointerBears p′ n′) (f l) ≡ keep (backpointerBears p′ n′) l) → Else m (changeBackpointers m q f) p n
+  pub backs-else : (Neat (partition m q) → Neat (withBackpointers (partition m q) (f (partition m q .backpointers))))
+      → ((p′ n′ : ℕ) → here p n p′ n′ ≡ false → (l : List Backpointer) → keep (backpointerBears p′ n′) (f l) ≡ keep (backpointerBears p′ n′) l) → Else m (changeBackpointers m q f) p n
   unfolding changeBackpointers
   backs-else w o =
-      let x : Partition = withBackpointers (partition m q) (f (partition m q .backpointers)) in
-      record {
-        shape = shape-part m q x s;
-        count = count-part m q x;
-        ups = part-field m q x (up-in m q u) (λ (y : Partition). y .up) refl;
-        lasts = part-field m q x (up-in m q u) (λ (y : Partition). y .last) refl;
-        neat = neat-set m q x (up-in m q u) w;
-        still = λ r e. part-field m q x (up-in m q u) (λ (y : Partition). y .records) refl r;
-        quiet = λ a b hb e. queue-part m q x a b;
-        entries = λ p′ n′ e. part-field m q x (up-in m q u) (λ (y : Partition). keep (entryBears n′) (y .entries)) refl p′;
-        records = λ p′ n′ e. part-field m q x (up-in m q u) (λ (y : Partition). keep (recordBears n′) (y .records)) refl p′;
-        backpointers = λ p′ n′ e. part-field m q x (up-in m q u) (λ (y : Partition). keep (backpointerBears p′ n′) (y .backpointers)) (o p′ n′ e (partition m q .backpointers));
-        messages = λ p′ n′ e a b hb. rw (queue-part m q x) refl;
-      }
+      part-else m p n q s u _
+      (record { up = refl; last = refl; neat = w; entries = λ n′ e. refl; records = λ n′ e. refl; backpointers = λ p′ n′ e. o p′ n′ e (partition m q .backpointers) })
 
   pub backs-view : {E : List Entry} {R : List Record} {B : ℕ → List Backpointer} {M : ℕ → ℕ → List Message}
-      → View m p n E R B M → (B′ : ℕ → List Backpointer) → (keep (backpointerBears p n) (f (partition m q .backpointers)) ≡ B′ q) → ((q′ : ℕ) → eqb q′ q ≡ false → B q′ ≡ B′ q′) → View (changeBackpointers m q f) p n E R B′ M
+      → View m p n E R B M → (B′ : ℕ → List Backpointer) → keep (backpointerBears p n) (f (partition m q .backpointers)) ≡ B′ q
+      → ((q′ : ℕ) → eqb q′ q ≡ false → B q′ ≡ B′ q′) → View (changeBackpointers m q f) p n E R B′ M
   unfolding changeBackpointers
   backs-view v B′ e o =
       let x : Partition = withBackpointers (partition m q) (f (partition m q .backpointers)) in

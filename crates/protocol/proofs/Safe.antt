@@ -9,7 +9,7 @@ use borrow.Author.Tests.{eqb-true}
 use Rattle.lists.specs.Lists.{keep}
 use Rattle.protocol.specs.Demands.{AllAccounted, HasName, HasOpenRecord, NamesHold, backpointerBears, backpointerFor, entryFor}
 use Rattle.protocol.specs.Elements.{Entry, Record}
-use Rattle.protocol.specs.Tables.{Model, entryBears, partition, recordBears}
+use Rattle.protocol.specs.Tables.{Model, entryBears, entryOf, partition, recordBears}
 use Rattle.lists.proofs.Members.{mem-keep, one-mem, seen-mem}
 use Rattle.lists.proofs.Tests.{and-left, and-right, eqb-same}
 use Rattle.protocol.proofs.Content.{Content, backpointerAt, entryAt}
@@ -38,8 +38,10 @@ accounted {m} i q b h =
     go x qc (z .1) (back-why c n (x .way) (x .entry) r)
   where
     go : (x : Tie m (b .parent) (b .number)) → q ≡ x .what .partition → b ≡ backpointerAt (x .what) (b .number) (b .parent)
-        → (x .entry ≡ true) ⊎ ((r : Record) × (recsOf (x .what) (b .number) (x .way) ≡ r ∷ []) × (r .number ≡ b .number)) → HasName m q b ⊎ HasOpenRecord m b
-    go x qc e (inl s) =
+        → (x .entry ≡ true) ⊎ ((r : Record) × (recsOf (x .what) (b .number) (x .way) ≡ r ∷ []) × (entryOf r ≡ entryAt (x .what) (b .number))) → HasName m q b ⊎ HasOpenRecord m q b
+    go x qc e y =
         let r : entryFor q b ≡ entryAt (x .what) (b .number) = λ j. record { directory = e j .directory; name = e j .name; partition = qc j; object = e j .object; number = b .number } in
-        inl (Memᴰ·cast r (seen-mem (entryBears (b .number)) (partition m (b .parent) .entries) [] (entryAt (x .what) (b .number)) (x .has .entries ∙ rw s refl)))
-    go x qc e (inr s) = inr (s .0, seen-mem (recordBears (b .number)) (partition m (b .parent) .records) [] (s .0) (x .has .records ∙ s .1), s .2)
+        elim y [
+          | inl s ↦ inl (Memᴰ·cast r (seen-mem (entryBears (b .number)) (partition m (b .parent) .entries) [] (entryAt (x .what) (b .number)) (x .has .entries ∙ rw s refl)))
+          | inr s ↦ inr (s .0, seen-mem (recordBears (b .number)) (partition m (b .parent) .records) [] (s .0) (x .has .records ∙ s .1), s .2 ∙ sym r)
+        ]

@@ -15,7 +15,7 @@ use Rattle.protocol.specs.Answers.{Outcome, accepted, check}
 use Rattle.protocol.specs.Claims.{Takes}
 use Rattle.protocol.specs.Deliver.{deliver}
 use Rattle.protocol.specs.Demands.{AllUp, acceptedIn, isStep, openRecords}
-use Rattle.protocol.specs.Elements.{Answer, OutOfOrder, Record, Tally, isOne, isOther}
+use Rattle.protocol.specs.Elements.{Answer, OutOfOrder, Record, Reply, Tally, isOne, isOther}
 use Rattle.protocol.specs.Events.{Advancing, Crashing, Creating, Cutting, Delivering, Event, Linking, Opening, Recovering, Unlinking, answers, apply, bare, run}
 use Rattle.protocol.specs.Order.{inOrder}
 use Rattle.protocol.specs.Settle.{Found, Settled, advances, candidates, deliveries, firstAccepted, found, nothing, plusIf, rested, settle, settleBy, stepsBy, tallied, zeroTally}
@@ -190,20 +190,14 @@ plus-if : (b : Bool) (n : ℕ) → plusIf b n ≡ hit b + n
 plus-if true n = omega arith
 plus-if false n = omega arith
 
-tally-ones : (t : Tally) (l : List Answer) → talliedAll t l .ones ≡ length (keep (λ (a : Answer). isOne (a .reply)) l) + t .ones
-tally-ones t [] = unfold keep in (omega arith)
-tally-ones t (a ∷ l) =
-    let b = tally-ones (tallied (a .reply) t) l in
-    let c = tally (λ (y : Answer). isOne (y .reply)) a l in
-    let d = plus-if (isOne (a .reply)) (t .ones) in
-    omega arith
-
-tally-others : (t : Tally) (l : List Answer) → talliedAll t l .others ≡ length (keep (λ (a : Answer). isOther (a .reply)) l) + t .others
-tally-others t [] = unfold keep in (omega arith)
-tally-others t (a ∷ l) =
-    let b = tally-others (tallied (a .reply) t) l in
-    let c = tally (λ (y : Answer). isOther (y .reply)) a l in
-    let d = plus-if (isOther (a .reply)) (t .others) in
+-- a count of the replies that pass a test; c reads it off a tally
+tally-replies : (c : Tally → ℕ) (f : Reply → Bool) → ((r : Reply) (t : Tally) → c (tallied r t) ≡ plusIf (f r) (c t))
+    → (t : Tally) (l : List Answer) → c (talliedAll t l) ≡ length (keep (λ (a : Answer). f (a .reply)) l) + c t
+tally-replies c f h t [] = unfold keep in (omega arith)
+tally-replies c f h t (a ∷ l) =
+    let b = tally-replies c f h (tallied (a .reply) t) l in
+    let d = tally (λ (y : Answer). f (y .reply)) a l in
+    let e = h (a .reply) t ∙ plus-if (f (a .reply)) (c t) in
     omega arith
 
 answers-length : (es : List Event) (m : Model) → length (answers es m) ≡ length es
@@ -241,8 +235,8 @@ settle-takes n t m o =
       allAccepted = r .allAccepted;
       reaches = ap (λ (z : Settled). z .model) q;
       counts = ap (λ (z : Settled). z .tally .steps) q ∙ tally-steps zeroTally (answers es m) ∙ add-zero _ ∙ answers-length es m;
-      ones = ap (λ (z : Settled). z .tally .ones) q ∙ tally-ones zeroTally (answers es m) ∙ add-zero _;
-      others = ap (λ (z : Settled). z .tally .others) q ∙ tally-others zeroTally (answers es m) ∙ add-zero _;
+      ones = ap (λ (z : Settled). z .tally .ones) q ∙ tally-replies (λ (y : Tally). y .ones) isOne (λ r y. refl) zeroTally (answers es m) ∙ add-zero _;
+      others = ap (λ (z : Settled). z .tally .others) q ∙ tally-replies (λ (y : Tally). y .others) isOther (λ r y. refl) zeroTally (answers es m) ∙ add-zero _;
       most = r .most;
       eight = let b = bound es m o (r .areSteps) in let c = r .allAccepted in omega arith;
       stops = elim (r .stops) [ inl e ↦ inl e | inr e ↦ inr (no-more (run es m) (run-order es m o) e) ];

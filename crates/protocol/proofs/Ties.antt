@@ -8,7 +8,7 @@ use lib.Dec.{eqb}
 use borrow.Author.Tests.{eqb-true}
 use Rattle.lists.specs.Lists.{one}
 use Rattle.protocol.specs.Elements.{Backpointer, Body, Cleared, Create, Held, Link, No, NoBecause, Ready, Record, Refused, Request, Sent, Stage, Unlink, Yes}
-use Rattle.protocol.specs.Tables.{Model}
+use Rattle.protocol.specs.Tables.{Model, entryOf}
 use Rattle.lists.proofs.Tests.{and-left, and-right, no-true}
 use Rattle.protocol.proofs.Content.{Content, Fine, backpointerAt, else-view, entryAt, fine-else, letters}
 use Rattle.protocol.proofs.Numbers.{Else, View, here}
@@ -124,7 +124,7 @@ entry-back (told Unlink No) st r = no-true r refl
 entry-back (told Unlink (NoBecause x)) st r = no-true r refl
 
 -- a back-pointer has its entry, or a record
-pub back-why : (c : Content) (n : ℕ) (w : Way) (e : Bool) → rule w e true ≡ true → (e ≡ true) ⊎ ((r : Record) × (recsOf c n w ≡ r ∷ []) × (r .number ≡ n))
+pub back-why : (c : Content) (n : ℕ) (w : Way) (e : Bool) → rule w e true ≡ true → (e ≡ true) ⊎ ((r : Record) × (recsOf c n w ≡ r ∷ []) × (entryOf r ≡ entryAt c n))
 back-why c n idle true r = inl refl
 back-why c n idle false r = no-true r refl
 back-why c n (rests k s) e r = inr (_, refl, refl)

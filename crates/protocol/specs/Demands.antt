@@ -9,7 +9,7 @@ use lib.ListN.{length}
 use Rattle.lists.specs.Lists.{keep}
 use Rattle.protocol.specs.Elements.{Answer, Backpointer, Entry, Record, adds, isAccepted}
 use Rattle.protocol.specs.Events.{Advancing, Crashing, Creating, Cutting, Delivering, Event, Linking, Opening, Recovering, Unlinking, answers}
-use Rattle.protocol.specs.Tables.{Model, entryBears, partition, partitionCount, recordBears, totals}
+use Rattle.protocol.specs.Tables.{Model, entryBears, entryOf, partition, partitionCount, recordBears, totals}
 
 -- ---- names and back-pointers
 
@@ -29,13 +29,14 @@ NamesHold m =
 abbrev pub HasName : Model → ℕ → Backpointer → Type 0
 HasName m q b = List·Memᴰ (entryFor q b) (partition m (b .parent) .entries)
 
-abbrev pub HasOpenRecord : Model → Backpointer → Type 0
-HasOpenRecord m b = (r : Record) × List·Memᴰ r (partition m (b .parent) .records) × (r .number ≡ b .number)
+-- a record of the parent's log that says the same
+abbrev pub HasOpenRecord : Model → ℕ → Backpointer → Type 0
+HasOpenRecord m q b = (r : Record) × List·Memᴰ r (partition m (b .parent) .records) × (entryOf r ≡ entryFor q b)
 
 -- "every back-pointer without its name has an open log record"
 abbrev pub AllAccounted : Model → Type 0
 AllAccounted m =
-    (q : ℕ) (b : Backpointer) → List·Memᴰ b (partition m q .backpointers) → HasName m q b ⊎ HasOpenRecord m b
+    (q : ℕ) (b : Backpointer) → List·Memᴰ b (partition m q .backpointers) → HasName m q b ⊎ HasOpenRecord m q b
 
 abbrev pub backpointerBears : ℕ → ℕ → Backpointer → Bool
 backpointerBears p n b = eqb (b .parent) p && eqb (b .number) n
