@@ -20,7 +20,8 @@ module _ {A : Type 0} where
   -- one element more
   pub keep-snoc : (f : A → Bool) (l : List A) (x : A) → keep f (l ++ x ∷ []) ≡ keep f l ++ one (f x) x
   unfolding keep
-  keep-snoc f l x = keep-append f l (x ∷ []) ∙ ap (λ (t : List A). keep f l ++ t) (elim (f x) as (λ b. pick b (x ∷ []) [] ≡ one b x) [ true ↦ refl | false ↦ refl ])
+  keep-snoc f l x = keep-append f l (x ∷ []) ∙ ap (λ (t : List A). keep f l ++ t)
+      (elim (f x) as (λ b. pick b (x ∷ []) [] ≡ one b x) [ true ↦ refl | false ↦ refl ])
 
   pub keep-snoc-other : (f : A → Bool) (l : List A) (x : A) → f x ≡ false → keep f (l ++ x ∷ []) ≡ keep f l
   keep-snoc-other f l x e = keep-snoc f l x ∙ rw e (append-nil (keep f l))
@@ -48,7 +49,8 @@ module _ {A : Type 0} where
   keep-without-other f g h (x ∷ l) =
       byTest (f x)
       (λ t. rw (t, without) (keep-without-other f g h l ∙ sym (keep-cons-other g l x (h x t))))
-      (λ t. rw (t, without) (keep-cons g (without f l) x ∙ ap (λ (k : List A). one (g x) x ++ k) (keep-without-other f g h l) ∙ sym (keep-cons g l x)))
+      (λ t. rw (t, without)
+      (keep-cons g (without f l) x ∙ ap (λ (k : List A). one (g x) x ++ k) (keep-without-other f g h l) ∙ sym (keep-cons g l x)))
 
   -- changed in place
   pub keep-mapIf-same : (f : A → Bool) (u : A → A) → ((x : A) → f (u x) ≡ f x) → (l : List A) → keep f (mapIf f u l) ≡ map u (keep f l)
@@ -59,13 +61,15 @@ module _ {A : Type 0} where
       (λ t. rw t (keep-cons-same f (mapIf f u l) (u x) (h x ∙ t) ∙ ap (λ (k : List A). u x ∷ k) (keep-mapIf-same f u h l)))
       (λ t. rw t (keep-cons-other f (mapIf f u l) x t ∙ keep-mapIf-same f u h l))
 
-  pub keep-mapIf-other : (f g : A → Bool) (u : A → A) → ((x : A) → f x ≡ true → g x ≡ false) → ((x : A) → g (u x) ≡ g x) → (l : List A) → keep g (mapIf f u l) ≡ keep g l
+  pub keep-mapIf-other : (f g : A → Bool) (u : A → A) → ((x : A) → f x ≡ true → g x ≡ false) → ((x : A) → g (u x) ≡ g x) → (l : List A)
+      → keep g (mapIf f u l) ≡ keep g l
   unfolding keep mapIf
   keep-mapIf-other f g u h k [] = refl
   keep-mapIf-other f g u h k (x ∷ l) =
       byTest (f x)
       (λ t. rw (t, mapIf) (keep-cons-other g (mapIf f u l) (u x) (k x ∙ h x t) ∙ keep-mapIf-other f g u h k l ∙ sym (keep-cons-other g l x (h x t))))
-      (λ t. rw (t, mapIf) (keep-cons g (mapIf f u l) x ∙ ap (λ (k : List A). one (g x) x ++ k) (keep-mapIf-other f g u h k l) ∙ sym (keep-cons g l x)))
+      (λ t. rw (t, mapIf) (keep-cons g (mapIf f u l) x ∙ ap (λ (k : List A). one (g x) x ++ k) (keep-mapIf-other f g u h k l) ∙ sym
+      (keep-cons g l x)))
 
   -- two tests of one element
   pub seen : (f g : A → Bool) (l : List A) (x : A) (k : List A) → keep f l ≡ x ∷ k → g x ≡ true → keep g l ≡ [] → ⊥
@@ -124,8 +128,10 @@ module _ {A : Type 0} where
   keep-mapIf f g u h [] = refl
   keep-mapIf f g u h (x ∷ l) =
       byTest (g x)
-      (λ gx. keep-cons-same g (mapIf f u l) (pick (f x) (u x) x) (both (f x) gx) ∙ ap (λ (k : List A). pick (f x) (u x) x ∷ k) (keep-mapIf f g u h l) ∙ sym (ap (mapIf f u) (keep-cons-same g l x gx)))
-      (λ gx. keep-cons-other g (mapIf f u l) (pick (f x) (u x) x) (both (f x) gx) ∙ keep-mapIf f g u h l ∙ sym (ap (mapIf f u) (keep-cons-other g l x gx)))
+      (λ gx. keep-cons-same g (mapIf f u l) (pick (f x) (u x) x) (both (f x) gx) ∙ ap (λ (k : List A). pick (f x) (u x) x ∷ k) (keep-mapIf f g u h l)
+      ∙ sym (ap (mapIf f u) (keep-cons-same g l x gx)))
+      (λ gx. keep-cons-other g (mapIf f u l) (pick (f x) (u x) x) (both (f x) gx) ∙ keep-mapIf f g u h l ∙ sym
+      (ap (mapIf f u) (keep-cons-other g l x gx)))
     where
       both : (t : Bool) {b : Bool} → g x ≡ b → g (pick t (u x) x) ≡ b
       both true e = h x ∙ e
@@ -159,12 +165,14 @@ module _ {A : Type 0} where
       (λ t. rw (keep-cons-other g l x t, t) (omega arith))
 
   -- a change in place that passes g only where the old one did
-  pub length-keep-mapIf : (g f : A → Bool) (u : A → A) → ((x : A) → g (u x) ≡ true → g x ≡ true) → (l : List A) → length (keep g (mapIf f u l)) ≤ length (keep g l)
+  pub length-keep-mapIf : (g f : A → Bool) (u : A → A) → ((x : A) → g (u x) ≡ true → g x ≡ true) → (l : List A)
+      → length (keep g (mapIf f u l)) ≤ length (keep g l)
   unfolding mapIf
   length-keep-mapIf g f u h [] = le-refl _
   length-keep-mapIf g f u h (x ∷ l) =
       let a = length-keep-mapIf g f u h l in
-      let b : hit (g (pick (f x) (u x) x)) ≤ hit (g x) = elim (f x) as (λ t. hit (g (pick t (u x) x)) ≤ hit (g x)) [ true ↦ hit-le (g (u x)) (g x) (h x) | false ↦ le-refl _ ] in
+      let b : hit (g (pick (f x) (u x) x)) ≤ hit (g x) = elim (f x) as
+      (λ t. hit (g (pick t (u x) x)) ≤ hit (g x)) [ true ↦ hit-le (g (u x)) (g x) (h x) | false ↦ le-refl _ ] in
       rw (tally g (pick (f x) (u x) x) (mapIf f u l), tally g x l) (omega arith)
 
   -- split by a test
@@ -177,7 +185,8 @@ module _ {A : Type 0} where
       (λ t. rw (keep-cons-same f l x t, tally g x l, tally g x (keep f l)) (rw (t, without) (omega arith)))
       (λ t. rw (keep-cons-other f l x t, tally g x l) (rw (t, without) (rw (tally g x (without f l)) (omega arith))))
 
-  pub keep-cong : (f g g′ : A → Bool) → ((x : A) → f x ≡ false → g′ x ≡ g x) → (l : List A) → length (keep g′ (without f l)) ≡ length (keep g (without f l))
+  pub keep-cong : (f g g′ : A → Bool) → ((x : A) → f x ≡ false → g′ x ≡ g x) → (l : List A)
+      → length (keep g′ (without f l)) ≡ length (keep g (without f l))
   unfolding without
   keep-cong f g g′ h [] = unfold keep in refl
   keep-cong f g g′ h (x ∷ l) =
@@ -223,7 +232,8 @@ some-mem [] i = absurd (List·Memᴰ·not-nil i)
 some-mem (y ∷ l) i = omega arith
 
 -- a change told the place
-pub getD-mapFrom : {A : Type 0} (f : ℕ → A → A) (d : A) → ((j : ℕ) → f j d ≡ d) → (l : List A) (k i : ℕ) → getD (mapFrom f k l) i d ≡ f (k + i) (getD l i d)
+pub getD-mapFrom : {A : Type 0} (f : ℕ → A → A) (d : A) → ((j : ℕ) → f j d ≡ d) → (l : List A) (k i : ℕ)
+    → getD (mapFrom f k l) i d ≡ f (k + i) (getD l i d)
 unfolding mapFrom
 getD-mapFrom f d z [] k i = sym (z (k + i))
 getD-mapFrom f d z (x ∷ l) k zero = rw (add-zero k) refl

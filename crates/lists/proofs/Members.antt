@@ -109,7 +109,8 @@ keep-sub f h s (x ∷ l) =
     (λ u. no-true (s x u) t)
     (λ u. rw (keep-cons-other f l x u) (keep-sub f h s l))))
 
-pub length-keep-keep : {A : Type 0} (f g h : A → Bool) → ((x : A) → f x ≡ true → g x ≡ true → h x ≡ true) → (l : List A) → length (keep f (keep g l)) ≤ length (keep h l)
+pub length-keep-keep : {A : Type 0} (f g h : A → Bool) → ((x : A) → f x ≡ true → g x ≡ true → h x ≡ true) → (l : List A)
+    → length (keep f (keep g l)) ≤ length (keep h l)
 length-keep-keep f g h s [] = unfold keep in (le-refl _)
 length-keep-keep f g h s (x ∷ l) =
     let a = length-keep-keep f g h s l in

@@ -49,10 +49,12 @@ module _ {A : Type 0} (f : A → Bool) (d : A) where
       (λ u. let w : hit (f x) ≡ 1 = rw u refl in let s = some-at l i (omega arith) t in absurd (omega arith))
       (λ u. rw (u, without) (ap (λ k. x ∷ k) (without-at l i (omega arith) t (omega arith))))
 
-  pub mapIf-at : (u : A → A) (l : List A) (i : ℕ) → i < length l → f (getD l i d) ≡ true → length (keep f l) ≤ 1 → mapIf f u l ≡ set l i (u (getD l i d))
+  pub mapIf-at : (u : A → A) (l : List A) (i : ℕ) → i < length l → f (getD l i d) ≡ true → length (keep f l) ≤ 1
+      → mapIf f u l ≡ set l i (u (getD l i d))
   unfolding mapIf
   mapIf-at u [] i p t h = absurd (omega arith)
-  mapIf-at u (x ∷ l) zero p t h = let e = tally f x l in let w : hit (f x) ≡ 1 = rw t refl in rw t (ap (λ k. u x ∷ k) (nothing-left l (omega arith) .1 u))
+  mapIf-at u (x ∷ l) zero p t h = let e = tally f x l in let w : hit (f x) ≡ 1 = rw t refl in rw t
+      (ap (λ k. u x ∷ k) (nothing-left l (omega arith) .1 u))
   mapIf-at u (x ∷ l) (suc i) p t h =
       let e = tally f x l in
       byTest (f x)
@@ -71,7 +73,9 @@ module _ {A : Type 0} (f : A → Bool) (d : A) where
   all-at (x ∷ l) e (suc i) h = all-at l (and-right (f x) _ e) i (omega arith)
 
   pub tally-take : (l : List A) (i : ℕ) → i < length l → length (keep f (take (i + 1) l)) ≡ length (keep f (take i l)) + hit (f (getD l i d))
-  tally-take l i h = rw (add-one i) (ap length (keep-take l i h) ∙ length-append (keep f (take i l)) (one (f (getD l i d)) (getD l i d)) ∙ ap (λ (k : ℕ). length (keep f (take i l)) + k) (go (f (getD l i d))))
+  tally-take l i h = rw (add-one i)
+      (ap length (keep-take l i h) ∙ length-append (keep f (take i l)) (one (f (getD l i d)) (getD l i d)) ∙ ap
+      (λ (k : ℕ). length (keep f (take i l)) + k) (go (f (getD l i d))))
     where
       go : (t : Bool) → length (one t (getD l i d)) ≡ hit t
       go true = refl

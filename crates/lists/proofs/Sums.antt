@@ -71,7 +71,8 @@ module _ {A : Type 0} (number : A → ℕ) where
   unfolding keep
   by-number k [] = sum-nil k
   by-number k (x ∷ l) =
-      let a = sum-le k (λ i. length (keep (λ y. eqb (number y) i) (x ∷ l))) (λ i. hit (eqb (number x) i) + length (keep (λ y. eqb (number y) i) l)) (λ i h. le-of-eq (tally (λ y. eqb (number y) i) x l)) in
+      let a = sum-le k (λ i. length (keep (λ y. eqb (number y) i) (x ∷ l))) (λ i. hit (eqb (number x) i) + length (keep (λ y. eqb (number y) i) l))
+      (λ i h. le-of-eq (tally (λ y. eqb (number y) i) x l)) in
       let b = sum-add k (λ i. hit (eqb (number x) i)) (λ i. length (keep (λ y. eqb (number y) i) l)) in
       let c = sum-hit k (number x) in
       let d = by-number k l in
@@ -94,10 +95,12 @@ sum-hit-one (suc k) j h =
     (λ t. rw t (omega arith))
     (λ t. let a = sum-hit-one k j (let n = eqb-false j k t in omega arith) in omega arith)
 
-pub by-number-ge : {A : Type 0} (number : A → ℕ) (k : ℕ) (l : List A) → ((x : A) → List·Memᴰ x l → number x < k) → length l ≤ sum k (λ i. length (keep (λ x. eqb (number x) i) l))
+pub by-number-ge : {A : Type 0} (number : A → ℕ) (k : ℕ) (l : List A) → ((x : A) → List·Memᴰ x l → number x < k)
+    → length l ≤ sum k (λ i. length (keep (λ x. eqb (number x) i) l))
 by-number-ge number k [] h = omega arith
 by-number-ge number k (x ∷ l) h =
-    let a = sum-le k (λ i. hit (eqb (number x) i) + length (keep (λ y. eqb (number y) i) l)) (λ i. length (keep (λ y. eqb (number y) i) (x ∷ l))) (λ i h. le-of-eq (sym (tally (λ y. eqb (number y) i) x l))) in
+    let a = sum-le k (λ i. hit (eqb (number x) i) + length (keep (λ y. eqb (number y) i) l)) (λ i. length (keep (λ y. eqb (number y) i) (x ∷ l)))
+    (λ i h. le-of-eq (sym (tally (λ y. eqb (number y) i) x l))) in
     let b = sum-add k (λ i. hit (eqb (number x) i)) (λ i. length (keep (λ y. eqb (number y) i) l)) in
     let c = sum-hit-one k (number x) (h x (List·Memᴰ·head refl)) in
     let d = by-number-ge number k l (λ y i. h y (List·Memᴰ·tail i)) in

@@ -30,7 +30,8 @@ weigh-asking Create e E = refl
 weigh-asking Unlink e E = no-true e refl
 
 -- what the tables hold of the number: its entries E, its record of the content c, its back-pointers B; T stands under its name
-module _ (m : Model) (p n : ℕ) (c : Content) (s : Shape m) (h : partition m p .up ≡ true) (B : ℕ → List Backpointer) (bf : (q : ℕ) (b : Backpointer) → List·Memᴰ b (B q) → Fine m (ofBackpointer q b))
+module _ (m : Model) (p n : ℕ) (c : Content) (s : Shape m) (h : partition m p .up ≡ true) (B : ℕ → List Backpointer)
+    (bf : (q : ℕ) (b : Backpointer) → List·Memᴰ b (B q) → Fine m (ofBackpointer q b))
     (T : List Entry) (under : keep (standsUnder (c .directory) (c .name)) (partition m p .entries) ≡ T) where
   no-ent : (e : Entry) → List·Memᴰ e [] → Fine m (ofEntry e)
   no-ent e i = absurd (List·Memᴰ·not-nil i)
@@ -42,16 +43,20 @@ module _ (m : Model) (p n : ℕ) (c : Content) (s : Shape m) (h : partition m p 
     unfolding perform check sent
     send-moved k w v l e =
         byTest (partition m (c .partition) .up)
-        (λ t. rw (t, perform, check) (move m p n c s h B bf [] (asking k) (sent-else m p n c s h fi k t) (sent-view m p n c s h fi k t v) fi (lit≤ tt) no-ent l))
+        (λ t. rw (t, perform, check)
+        (move m p n c s h B bf [] (asking k) (sent-else m p n c s h fi k t) (sent-view m p n c s h fi k t v) fi (lit≤ tt) no-ent l))
         (λ t. no-step (rw t at e))
 
-    enter-moved : (k : Kind) → adds k ≡ true → T ≡ [] → View m p n [] (recordAt c n k Held ∷ []) B (λ a b. []) → Moved m (perform m p (recordAt c n k Held) enters .model) p n 5
+    enter-moved : (k : Kind) → adds k ≡ true → T ≡ [] → View m p n [] (recordAt c n k Held ∷ []) B (λ a b. [])
+        → Moved m (perform m p (recordAt c n k Held) enters .model) p n 5
     unfolding perform
     enter-moved k a e v =
         move m p n c s h B bf (entryAt c n ∷ []) (rests k Held)
-        (enter-else m p n s h (entryAt c n) refl (neat-enter (partition m p) (entryAt c n) (recordAt c n k Held) (under ∙ e) (v .entries) (v .records) refl a))
+        (enter-else m p n s h (entryAt c n) refl
+        (neat-enter (partition m p) (entryAt c n) (recordAt c n k Held) (under ∙ e) (v .entries) (v .records) refl a))
         (enter-view m p n s h (entryAt c n) refl v) (fi, a, refl) (lit≤ tt)
-        (λ e i. subst (λ (y : Entry). Fine m (ofEntry y)) (sym (List·Memᴰ·eq-of-singleton i)) fi) (rw (weigh-rests k a (entryAt c n ∷ []) Held) (lit< tt))
+        (λ e i. subst (λ (y : Entry). Fine m (ofEntry y)) (sym (List·Memᴰ·eq-of-singleton i)) fi)
+        (rw (weigh-rests k a (entryAt c n ∷ []) Held) (lit< tt))
 
     turn-moved : (k : Kind) → View m p n [] (recordAt c n k Held ∷ []) B (λ a b. []) → Moved m (perform m p (recordAt c n k Held) turns .model) p n 5
     unfolding perform
@@ -59,19 +64,22 @@ module _ (m : Model) (p n : ℕ) (c : Content) (s : Shape m) (h : partition m p 
         move m p n c s h B bf [] (rests Unlink Ready) (alter-else m p n s h turned (λ r. refl) (neat-turn (partition m p) (recordBears n)))
         (alter-view m p n s h turned (λ r. refl) v) (fi, refl, refl) (lit≤ tt) no-ent (lit< tt)
 
-  close-moved : (E : List Entry) (r : Record) → length E ≤ 1 → ((e : Entry) → List·Memᴰ e E → Fine m (ofEntry e)) → View m p n E (r ∷ []) B (λ a b. []) → Moved m (closeRecord m p n) p n 1
+  close-moved : (E : List Entry) (r : Record) → length E ≤ 1 → ((e : Entry) → List·Memᴰ e E → Fine m (ofEntry e))
+      → View m p n E (r ∷ []) B (λ a b. []) → Moved m (closeRecord m p n) p n 1
   close-moved E r si ef v = move m p n c s h B bf E idle (close-else m p n s h) (close-view m p n s h v) tt si ef (lit< tt)
 
   -- by entry and stage
   module _ (E : List Entry) (si : length E ≤ 1) (ef : (e : Entry) → List·Memᴰ e E → Fine m (ofEntry e)) (fi : Fine m c) where
     abbrev Does : Kind → Stage → List Entry → Next → ℕ → Type 0
-    Does k g E x w = View m p n E (recordAt c n k g ∷ []) B (λ a b. []) → accepted (perform m p (recordAt c n k g) x) ≡ true → Moved m (perform m p (recordAt c n k g) x .model) p n w
+    Does k g E x w = View m p n E (recordAt c n k g ∷ []) B (λ a b. []) → accepted (perform m p (recordAt c n k g) x) ≡ true → Moved m
+        (perform m p (recordAt c n k g) x .model) p n w
 
     held-moved : (k : Kind) → adds k ≡ true → (T′ : List Entry) → T ≡ T′ → Does k Held [] (nextToAdd Held false (isSome T′)) 5
     held-moved k a [] q v e = enter-moved fi k a q v
     held-moved k a (x ∷ l) q v e = turn-moved fi k v
 
-    add-moved : (k : Kind) → adds k ≡ true → (E′ : List Entry) → E ≡ E′ → (g : Stage) → Does k g E′ (nextToAdd g (isSome E′) (isSome T)) (restAdd E′ g)
+    add-moved : (k : Kind) → adds k ≡ true → (E′ : List Entry) → E ≡ E′ → (g : Stage)
+        → Does k g E′ (nextToAdd g (isSome E′) (isSome T)) (restAdd E′ g)
     unfolding perform
     add-moved k a [] q Ready v e = send-moved fi k 8 v (rw (weigh-asking k a []) (lit< tt)) e
     add-moved k a [] q Sent v e = no-step e
@@ -88,7 +96,8 @@ module _ (m : Model) (p n : ℕ) (c : Content) (s : Shape m) (h : partition m p 
     unfolding perform
     remove-moved [] q Ready v e = send-moved fi Unlink 4 v (lit< tt) e
     remove-moved (y ∷ l) q Ready v e =
-        move m p n c s h B bf [] (rests Unlink Ready) (leave-else m p n s h (recordAt c n Unlink Ready) (v .records) refl) (leave-view m p n s h v) (fi, refl, refl) (lit≤ tt) no-ent (lit< tt)
+        move m p n c s h B bf [] (rests Unlink Ready) (leave-else m p n s h (recordAt c n Unlink Ready) (v .records) refl) (leave-view m p n s h v)
+        (fi, refl, refl) (lit≤ tt) no-ent (lit< tt)
     remove-moved [] q Sent v e = no-step e
     remove-moved [] q Held v e = no-step e
     remove-moved [] q (Refused x) v e = no-step e
@@ -109,7 +118,8 @@ sent-next Link entered taken = refl
 sent-next Create entered taken = refl
 sent-next Unlink entered taken = refl
 
-pub sent-stays : {G : Type 0} (m : Model) (p : ℕ) (r : Record) (k : Kind) (entered taken : Bool) → accepted (perform m p r (nextOf k Sent entered taken)) ≡ true → G
+pub sent-stays : {G : Type 0} (m : Model) (p : ℕ) (r : Record) (k : Kind) (entered taken : Bool)
+    → accepted (perform m p r (nextOf k Sent entered taken)) ≡ true → G
 unfolding perform
 sent-stays m p r k entered taken e = no-step (rw (sent-next k entered taken) at e)
 
@@ -124,7 +134,8 @@ module _ (m : Model) (p n : ℕ) (s : Shape m) (h : partition m p .up ≡ true) 
   advance-in idle so v e = no-step e
   advance-in (rests k g) so v e =
       rw (v .entries)
-      (rest-moved m p n (y .what) s h (y .backpointers) (y .backpointersFine) (keep (standsUnder (y .what .directory) (y .what .name)) (partition m p .entries)) refl
+      (rest-moved m p n (y .what) s h (y .backpointers) (y .backpointersFine)
+      (keep (standsUnder (y .what .directory) (y .what .name)) (partition m p .entries)) refl
       (y .entries) (y .single) (y .entriesFine) (so .0) k g v (rw (v .entries) at e))
   advance-in (asking k) so v e = sent-stays m p _ k _ _ e
   advance-in (told k t) so v e = sent-stays m p _ k _ _ e
@@ -145,4 +156,5 @@ advance-cases m p n R r G f e =
 
 pub advance-moved : (m : Model) (p n : ℕ) → Shape m → (y : Fit m p n) → accepted (advance m p n) ≡ true → Moved m (advance m p n .model) p n (load y)
 advance-moved m p n s y =
-    advance-cases m p n (recsOf (y .what) n (y .way)) (y .has .records) (λ m′. Moved m m′ p n (load y)) (λ h e. advance-in m p n s h y (y .way) (y .sound) (y .has) e)
+    advance-cases m p n (recsOf (y .what) n (y .way)) (y .has .records) (λ m′. Moved m m′ p n (load y))
+    (λ h e. advance-in m p n s h y (y .way) (y .sound) (y .has) e)

@@ -52,7 +52,8 @@ refused-keeps e m a =
 pub told-last : (e : Event) (m : Model) → inOrder m ≡ true → isOther (apply e m .answer .reply) ≡ true → ToldLast e (apply e m .model)
 told-last e m o h =
     let q : apply e m ≡ bare e m = apply-is e m o in
-    rw q (go e (fair-reply (event-fair m e (order-whole m o)) (ap (λ (y : Outcome). isOther (y .answer .reply)) (sym q) ∙ h)) (ap (λ (y : Outcome). isOther (y .answer .reply)) (sym q) ∙ h))
+    rw q (go e (fair-reply (event-fair m e (order-whole m o)) (ap (λ (y : Outcome). isOther (y .answer .reply)) (sym q) ∙ h))
+    (ap (λ (y : Outcome). isOther (y .answer .reply)) (sym q) ∙ h))
   where
     go : (e : Event) → Says m e (bare e m .answer .reply) (bare e m .model) → isOther (bare e m .answer .reply) ≡ true → ToldLast e (bare e m .model)
     go (Linking p d s q o) f h = no-true h f

@@ -46,7 +46,8 @@ weight-le {m} w k =
         let c = by-number (λ (r : Record). r .number) k (partition m p .records) in
         omega arith
 
-weight-less : {m m′ : Model} {p n : ℕ} (w : Whole m) (x : Moved m m′ p n (load (w .local p n))) (k : ℕ) → p < 4 → n < k → weight (moved-whole w x) k < weight w k
+weight-less : {m m′ : Model} {p n : ℕ} (w : Whole m) (x : Moved m m′ p n (load (w .local p n))) (k : ℕ) → p < 4 → n < k
+    → weight (moved-whole w x) k < weight w k
 unfolding weight
 weight-less {p} {n} w x k hp hn =
     sum-lt 4 _ _ (λ p′. sum-le k _ _ (λ n′ h. each p′ n′)) p hp
@@ -70,7 +71,8 @@ inside {m} w p n h =
     (λ t. ltb-true _ _ t)
     (λ t.
     let y : Fit m p n = w .local p n in
-    let e : length (recsOf (y .what) n (y .way)) ≡ 0 = ap length (sym (y .has .records) ∙ ap (keep (recordBears n)) (no-records m p (ltb-false _ _ t))) in
+    let e : length (recsOf (y .what) n (y .way)) ≡ 0 = ap length
+    (sym (y .has .records) ∙ ap (keep (recordBears n)) (no-records m p (ltb-false _ _ t))) in
     absurd (omega (arith, weigh-le (y .what) n (y .entries) (y .way))))
 
 record Lighter (m′ : Model) (N w : ℕ) : Type 0 where
@@ -93,7 +95,8 @@ unfolding acceptedIn answers
 accepted-more e es m = tally (λ (a : Answer). isAccepted (a .refusal)) (apply e m .answer) (answers es (apply e m .model))
 
 -- each accepted step takes one at least from the weight
-steps-bound : (N : ℕ) (es : List Event) (m : Model) → all isStep es ≡ true → (g : Whole m) → ((q : ℕ) → partition m q .last < N) → acceptedIn es m ≤ weight g N
+steps-bound : (N : ℕ) (es : List Event) (m : Model) → all isStep es ≡ true → (g : Whole m) → ((q : ℕ) → partition m q .last < N)
+    → acceptedIn es m ≤ weight g N
 unfolding all
 steps-bound N [] m st g h = unfold acceptedIn answers keep in (omega arith)
 steps-bound N (e ∷ es) m st g h =
@@ -102,7 +105,8 @@ steps-bound N (e ∷ es) m st g h =
     byTest (accepted (apply e m))
     (λ a.
     let x : Lighter (apply e m .model) N (weight g N) =
-    subst (λ (o : Outcome). Lighter (o .model) N (weight g N)) (sym q) (lighter N g (step-moves e m g (and-left _ _ st) (ap accepted (sym q) ∙ a)) h) in
+    subst (λ (o : Outcome). Lighter (o .model) N (weight g N)) (sym q)
+    (lighter N g (step-moves e m g (and-left _ _ st) (ap accepted (sym q) ∙ a)) h) in
     let b = steps-bound N es (apply e m .model) (and-right (isStep e) _ st) (x .whole) (x .lasts) in
     let c = x .less in
     let d : hit (accepted (apply e m)) ≡ 1 = rw a refl in

@@ -43,7 +43,11 @@ ended m g u steps st =
     }
 
 pub settles : Settles
-settles = record { ends = λ k h₁ h₄ es u steps st. ended (run es (fresh k)) (reached k h₁ h₄ es) u steps st; eight = λ m o steps st. bound steps m o st }
+settles = record {
+  ends = λ k h₁ h₄ es u steps st. ended (run es (fresh k)) (reached k h₁ h₄ es) u steps st;
+  eight = λ m o steps st.
+      bound steps m o st;
+}
 
 pub settling : Settling
 settling = record { takes = settle-takes; order = settle-order; untested = settle-untested; empties = settle-empties; small = settle-small }

@@ -38,11 +38,13 @@ module _ (m : Model) (p n q : ℕ) (s : Shape m) (u : partition m q .up ≡ true
       let x : Partition = withBackpointers (partition m q) (f (partition m q .backpointers)) in
       backs-view m p n q s u f v (λ q′. keep (backpointerBears p n) (partition (setPartition m q x) q′ .backpointers))
       (sym (ap (λ (y : Partition). keep (backpointerBears p n) (y .backpointers)) (part-same m q x (up-in m q u))))
-      (λ q′ e. sym (v .backpointers q′) ∙ sym (ap (λ (y : Partition). keep (backpointerBears p n) (y .backpointers)) (part-other m q x (up-in m q u) q′ e)))
+      (λ q′ e. sym (v .backpointers q′) ∙ sym
+      (ap (λ (y : Partition). keep (backpointerBears p n) (y .backpointers)) (part-other m q x (up-in m q u) q′ e)))
 
   backs-fine : ((b : Backpointer) → List·Memᴰ b (keep (backpointerBears p n) (f (partition m q .backpointers))) → Fine m (ofBackpointer q b))
       → ((q′ : ℕ) (b : Backpointer) → List·Memᴰ b (keep (backpointerBears p n) (partition m q′ .backpointers)) → Fine m (ofBackpointer q′ b))
-      → (q′ : ℕ) (b : Backpointer) → List·Memᴰ b (keep (backpointerBears p n) (partition (changeBackpointers m q f) q′ .backpointers)) → Fine m (ofBackpointer q′ b)
+      → (q′ : ℕ) (b : Backpointer) → List·Memᴰ b (keep (backpointerBears p n) (partition (changeBackpointers m q f) q′ .backpointers))
+      → Fine m (ofBackpointer q′ b)
   unfolding changeBackpointers
   backs-fine g o q′ b i =
       let x : Partition = withBackpointers (partition m q) (f (partition m q .backpointers)) in
@@ -92,13 +94,16 @@ module _ (m : Model) (p n : ℕ) (c : Content) (s : Shape m) (h : partition m p 
 
   say-moved : (t : Body) → bodyFits k t ≡ true → isRequest t ≡ false → Moved m (send m (c .partition) p (messageAt c n k t)) p n (weigh E (asking k))
   say-moved t a b =
-      move m p n c s h B bf E (told k t) (say-else m p n c s h hq k t (home-is t b)) (say-view m p n c s h hq k t (home-is t b) v) (fi, a, b) si ef (told-less E k t)
+      move m p n c s h B bf E (told k t) (say-else m p n c s h hq k t (home-is t b)) (say-view m p n c s h hq k t (home-is t b) v) (fi, a, b) si ef
+      (told-less E k t)
 
   old-fine : (q′ : ℕ) (b : Backpointer) → List·Memᴰ b (keep (backpointerBears p n) (partition m q′ .backpointers)) → Fine m (ofBackpointer q′ b)
   old-fine q′ b i = bf q′ b (rw (v .backpointers q′) at i)
 
   -- yes, with a change of back-pointers
-  yes-moved : (f : List Backpointer → List Backpointer) → Else m (changeBackpointers m (c .partition) f) p n → ((b : Backpointer) → List·Memᴰ b (keep (backpointerBears p n) (f (partition m (c .partition) .backpointers))) → Fine m (ofBackpointer (c .partition) b))
+  yes-moved : (f : List Backpointer → List Backpointer) → Else m (changeBackpointers m (c .partition) f) p n
+      → ((b : Backpointer) → List·Memᴰ b (keep (backpointerBears p n) (f (partition m (c .partition) .backpointers)))
+      → Fine m (ofBackpointer (c .partition) b))
       → Moved m (send (changeBackpointers m (c .partition) f) (c .partition) p (messageAt c n k Yes)) p n (weigh E (asking k))
   yes-moved f o fresh =
       let m′ : Model = changeBackpointers m (c .partition) f in
@@ -120,13 +125,17 @@ module _ (m : Model) (p n : ℕ) (c : Content) (s : Shape m) (h : partition m p 
       yes-moved (λ l. l ++ backpointerAt c n p ∷ []) (grow-else m p n c s hq e r)
       (λ b i. grown b (append-mem (keep (backpointerBears p n) bs) _ b (rw (keep-snoc (backpointerBears p n) bs (backpointerAt c n p)) at i)))
     where
-      grown : (b : Backpointer) → List·Memᴰ b (keep (backpointerBears p n) bs) ⊎ List·Memᴰ b (one (backpointerBears p n (backpointerAt c n p)) (backpointerAt c n p)) → Fine m (ofBackpointer (c .partition) b)
+      grown : (b : Backpointer)
+          → List·Memᴰ b (keep (backpointerBears p n) bs) ⊎ List·Memᴰ b (one (backpointerBears p n (backpointerAt c n p)) (backpointerAt c n p))
+          → Fine m (ofBackpointer (c .partition) b)
       grown b (inl j) = old-fine (c .partition) b j
-      grown b (inr j) = subst (λ (y : Backpointer). Fine m (ofBackpointer (c .partition) y)) (sym (one-mem (backpointerBears p n (backpointerAt c n p)) b (backpointerAt c n p) j .1)) fi
+      grown b (inr j) = subst (λ (y : Backpointer). Fine m (ofBackpointer (c .partition) y))
+          (sym (one-mem (backpointerBears p n (backpointerAt c n p)) b (backpointerAt c n p) j .1)) fi
   carry-moved w (missing a e) = say-moved No (rw a refl) refl
   carry-moved w (dropping a) =
       yes-moved (without (isExactly p asked)) (shrink-else m p n c s hq k Request)
-      (λ b i. old-fine (c .partition) b (without-mem (isExactly p asked) (keep (backpointerBears p n) bs) b (rw (keep-without (backpointerBears p n) (isExactly p asked) bs) at i)))
+      (λ b i. old-fine (c .partition) b
+      (without-mem (isExactly p asked) (keep (backpointerBears p n) bs) b (rw (keep-without (backpointerBears p n) (isExactly p asked) bs) at i)))
 
   request-moved : Moved m (carryOut m p (c .partition) asked (verdict (partition m (c .partition)) p asked)) p n (weigh E (asking k))
   unfolding verdict
@@ -146,15 +155,20 @@ module _ (m : Model) (p n : ℕ) (c : Content) (s : Shape m) (a b : ℕ) (ha : p
   after : {m₁ m₂ : Model} {w : ℕ} → Else m m₁ p n → Moved m₁ m₂ p n w → Moved m m₂ p n w
   after o z = record { others = else-trans o (z .others); to = z .to; less = z .less }
 
-  out-moved : (k : Kind) → Fine m c → partition m p .up ≡ true → partition m (c .partition) .up ≡ true → queue m p (c .partition) ≡ messageAt c n k Request ∷ l
-      → View m p n E (recordAt c n k Sent ∷ []) B (letters c n p (out k)) → Moved m (receive Request (setQueue m p (c .partition) l) p (c .partition) (messageAt c n k Request)) p n (weigh E (asking k))
+  out-moved : (k : Kind) → Fine m c → partition m p .up ≡ true → partition m (c .partition) .up ≡ true
+      → queue m p (c .partition) ≡ messageAt c n k Request ∷ l
+      → View m p n E (recordAt c n k Sent ∷ []) B (letters c n p (out k))
+      → Moved m (receive Request (setQueue m p (c .partition) l) p (c .partition) (messageAt c n k Request)) p n (weigh E (asking k))
   out-moved k fi h hq r v =
       let o : Else m (setQueue m p (c .partition) l) p n = out-else m p n c s h hq fi k l r in
-      after o (request-moved _ p n c (o .shape) (o .ups p ∙ h) (o .ups (c .partition) ∙ hq) (fine-else (o .count) fi) E si (λ e i. fine-else (o .count) (ef e i)) k B (λ q b i. fine-else (o .count) (bf q b i))
+      after o (request-moved _ p n c (o .shape) (o .ups p ∙ h) (o .ups (c .partition) ∙ hq) (fine-else (o .count) fi) E si
+      (λ e i. fine-else (o .count) (ef e i)) k B (λ q b i. fine-else (o .count) (bf q b i))
       (out-view m p n c s h hq fi k l r v))
 
-  home-moved : (k : Kind) (t : Body) → Fine m c → bodyFits k t ≡ true → isRequest t ≡ false → partition m p .up ≡ true → partition m (c .partition) .up ≡ true → queue m (c .partition) p ≡ messageAt c n k t ∷ l
-      → View m p n E (recordAt c n k Sent ∷ []) B (letters c n p (home k t)) → Moved m (land (setQueue m (c .partition) p l) p (messageAt c n k t)) p n (weigh E (told k t))
+  home-moved : (k : Kind) (t : Body) → Fine m c → bodyFits k t ≡ true → isRequest t ≡ false → partition m p .up ≡ true
+      → partition m (c .partition) .up ≡ true → queue m (c .partition) p ≡ messageAt c n k t ∷ l
+      → View m p n E (recordAt c n k Sent ∷ []) B (letters c n p (home k t))
+      → Moved m (land (setQueue m (c .partition) p l) p (messageAt c n k t)) p n (weigh E (told k t))
   home-moved k t fi to nr h hq r v =
       let g : giver t (c .partition) p ≡ p = answer-giver (c .partition) p t (ap not nr) in
       let o : Else m (setQueue m (c .partition) p l) p n = home-else m p n c s h hq fi k l t g r in
@@ -164,12 +178,15 @@ module _ (m : Model) (p n : ℕ) (c : Content) (s : Shape m) (a b : ℕ) (ha : p
       (else-trans o (alter-else _ p n (o .shape) h′ (inStage (stageAfter k t)) (λ r. refl) (neat-stage _ (recordBears n) (stageAfter k t))))
       (alter-view _ p n (o .shape) h′ (inStage (stageAfter k t)) (λ r. refl) (home-view m p n c s h hq fi k l t g r v)) (fi, z .0, z .1) si ef (z .2)
 
-  deliver-in : (w : Way) → Sound m c w → View m p n E (recsOf c n w) B (letters c n p (mailOf w)) → Goes (weigh E w) (receive (x .body) (setQueue m a b l) a b x)
+  deliver-in : (w : Way) → Sound m c w → View m p n E (recsOf c n w) B (letters c n p (mailOf w))
+      → Goes (weigh E w) (receive (x .body) (setQueue m a b l) a b x)
   deliver-in idle so v = none-in m p n c a b ha hb x l q is (Goes 0) (v .messages a b four)
   deliver-in (rests k t) so v = none-in m p n c a b ha hb x l q is (Goes (weigh E (rests k t))) (v .messages a b four)
-  deliver-in (asking k) so v = out-in m p n c a b ha hb x l q is (Goes (weigh E (asking k))) k (v .messages a b four) (λ h hq r. out-moved k so h hq r v)
+  deliver-in (asking k) so v = out-in m p n c a b ha hb x l q is (Goes (weigh E (asking k))) k (v .messages a b four)
+      (λ h hq r. out-moved k so h hq r v)
   deliver-in (told k t) so v =
-      home-in m p n c a b ha hb x l q is (Goes (weigh E (told k t))) k t (so .2) (v .messages a b four) (λ h hq r. home-moved k t (so .0) (so .1) (so .2) h hq r v)
+      home-in m p n c a b ha hb x l q is (Goes (weigh E (told k t))) k t (so .2) (v .messages a b four)
+      (λ h hq r. home-moved k t (so .0) (so .1) (so .2) h hq r v)
 
 pub deliver-moved : (m : Model) (a b : ℕ) (i : Whole m) → accepted (deliver m a b) ≡ true → Moves m (deliver m a b .model) i
 deliver-moved m a b i =
@@ -180,5 +197,6 @@ deliver-moved m a b i =
     record {
       giver = p;
       number = x .number;
-      moved = deliver-in m p (x .number) (y .what) (i .shape) a b ha hb (y .entries) (y .single) (y .entriesFine) (y .backpointers) (y .backpointersFine) x l q (both-true (eqb-same p) (eqb-same (x .number))) (y .way) (y .sound) (y .has);
+      moved = deliver-in m p (x .number) (y .what) (i .shape) a b ha hb (y .entries) (y .single) (y .entriesFine) (y .backpointers)
+          (y .backpointersFine) x l q (both-true (eqb-same p) (eqb-same (x .number))) (y .way) (y .sound) (y .has);
     })

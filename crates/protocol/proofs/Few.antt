@@ -56,7 +56,8 @@ module _ (m : Model) (f : Few m) (a b : ℕ) (hb : b < 4) where
     all-small : (x : Message) → List·Memᴰ x (keep g (queue m a b)) → x .number < N
     all-small x i =
         let t : g x ≡ true = kept-mem g (queue m a b) x i in
-        let j : List·Memᴰ x (keep (about a b p (x .number)) (queue m a b)) = mem-keep (about a b p (x .number)) (queue m a b) x (keep-mem g (queue m a b) x i) (about-of (x .number) x (eqb-same (x .number)) t) in
+        let j : List·Memᴰ x (keep (about a b p (x .number)) (queue m a b)) = mem-keep (about a b p (x .number)) (queue m a b) x
+        (keep-mem g (queue m a b) x i) (about-of (x .number) x (eqb-same (x .number)) t) in
         byTest (ltb (partition m p .last) (x .number))
         (λ u.
         let z : length (keep (recordBears (x .number)) (partition m p .records)) ≡ 0 = ap length (f .small p (x .number) (ltb-true _ _ u)) in
@@ -70,13 +71,15 @@ module _ (m : Model) (f : Few m) (a b : ℕ) (hb : b < 4) where
         let s₃ = by-number (λ (r : Record). r .number) N (partition m p .records) in
         omega arith
 
-    pub half-less : (n : ℕ) → keep (about a b p n) (queue m a b) ≡ [] → 1 ≤ length (keep (recordBears n) (partition m p .records)) → length (keep g (queue m a b)) < length (partition m p .records)
+    pub half-less : (n : ℕ) → keep (about a b p n) (queue m a b) ≡ [] → 1 ≤ length (keep (recordBears n) (partition m p .records))
+        → length (keep g (queue m a b)) < length (partition m p .records)
     half-less n e h =
         let nN : n < N = byTest (ltb (partition m p .last) n)
         (λ u. let z : length (keep (recordBears n) (partition m p .records)) ≡ 0 = ap length (f .small p n (ltb-true _ _ u)) in absurd (omega arith))
         (λ u. let y = ltb-false (partition m p .last) n u in omega arith) in
         let s₁ = by-number-ge (λ (x : Message). x .number) N (keep g (queue m a b)) all-small in
-        let s₂ = sum-lt N mine (λ n. length (keep (recordBears n) (partition m p .records))) each-le n nN (let u = under n in let v = ap length e in omega arith) in
+        let s₂ = sum-lt N mine (λ n. length (keep (recordBears n) (partition m p .records))) each-le n nN
+        (let u = under n in let v = ap length e in omega arith) in
         let s₃ = by-number (λ (r : Record). r .number) N (partition m p .records) in
         omega arith
 
@@ -93,15 +96,18 @@ module _ (m : Model) (f : Few m) (a b : ℕ) (hb : b < 4) where
   replies = half b ans (λ x e. answer-giver a b (x .body) e)
 
   pub queue-short : length (queue m a b) ≤ 32
-  queue-short = let h₁ = requests in let h₂ = replies in let h₃ = length-halves req (queue m a b) in let h₄ = f .sixteen a in let h₅ = f .sixteen b in omega arith
+  queue-short = let h₁ = requests in let h₂ = replies in let h₃ = length-halves req (queue m a b) in let h₄ = f .sixteen a in let h₅ =
+      f .sixteen b in omega arith
 
   -- room for one more, where a record of the sender, or of the receiver, has no message there
-  pub room-out : (n : ℕ) → keep (about a b a n) (queue m a b) ≡ [] → 1 ≤ length (keep (recordBears n) (partition m a .records)) → length (queue m a b) < 32
+  pub room-out : (n : ℕ) → keep (about a b a n) (queue m a b) ≡ [] → 1 ≤ length (keep (recordBears n) (partition m a .records))
+      → length (queue m a b) < 32
   room-out n e h =
       let h₁ = half-less a req (λ x e. request-giver a b (x .body) e) n e h in
       let h₂ = replies in let h₃ = length-halves req (queue m a b) in let h₄ = f .sixteen a in let h₅ = f .sixteen b in omega arith
 
-  pub room-home : (n : ℕ) → keep (about a b b n) (queue m a b) ≡ [] → 1 ≤ length (keep (recordBears n) (partition m b .records)) → length (queue m a b) < 32
+  pub room-home : (n : ℕ) → keep (about a b b n) (queue m a b) ≡ [] → 1 ≤ length (keep (recordBears n) (partition m b .records))
+      → length (queue m a b) < 32
   room-home n e h =
       let h₁ = half-less b ans (λ x e. answer-giver a b (x .body) e) n e h in
       let h₂ = requests in let h₃ = length-halves req (queue m a b) in let h₄ = f .sixteen a in let h₅ = f .sixteen b in omega arith

@@ -37,7 +37,8 @@ use Rattle.protocol.proofs.Tells.{order-whole}
 use Rattle.protocol.proofs.Whole.{Fit, Sound, Way, Whole, asking, change-whole, fit-else, idle, mailOf, moved-whole, ofEntry, recsOf, refit, rests, told}
 
 -- only up or last changes
-plain-whole : (m : Model) (p : ℕ) (x : Partition) → Plain x (partition m p) → p < length (m .partitions) → Neats (setPartition m p x) → DownsRest (setPartition m p x) → Whole m → Whole (setPartition m p x)
+plain-whole : (m : Model) (p : ℕ) (x : Partition) → Plain x (partition m p) → p < length (m .partitions) → Neats (setPartition m p x)
+    → DownsRest (setPartition m p x) → Whole m → Whole (setPartition m p x)
 plain-whole m p x e h ne dn i =
     record {
       shape = shape-part m p x (i .shape);
@@ -60,7 +61,8 @@ given-whole : (m : Model) (p : ℕ) → p < length (m .partitions) → partition
 unfolding giveNumber
 given-whole m p h l g =
     let x : Partition = raised (partition m p) in
-    plain-whole m p x (raised-plain (partition m p)) h (neat-set m p x h (raised-neat (partition m p) l) (g .neat)) (plain-downs m p x h refl refl (g .downs)) g
+    plain-whole m p x (raised-plain (partition m p)) h (neat-set m p x h (raised-neat (partition m p) l) (g .neat))
+    (plain-downs m p x h refl refl (g .downs)) g
 
 ask-whole : (k : Kind) → adds k ≡ true → (m : Model) (p d : ℕ) (t : Name) (q o : ℕ) → Whole m → Whole (ask k m p d t q o .model)
 ask-whole k a m p d t q o g =
@@ -95,11 +97,18 @@ unlink-whole m p d t g =
     unlink-cases m p d t Whole g λ e es u.
     let n : ℕ = e .number in
     let y : Fit m p n = g .local p n in
-    let i : List·Memᴰ e (keep (entryBears n) (partition m p .entries)) = mem-keep (entryBears n) (partition m p .entries) e (seen-mem (standsUnder d t) (partition m p .entries) es e (u .found)) (eqb-same n) in
+    let i : List·Memᴰ e (keep (entryBears n) (partition m p .entries)) = mem-keep (entryBears n) (partition m p .entries) e
+    (seen-mem (standsUnder d t) (partition m p .entries) es e (u .found)) (eqb-same n) in
     let o : Else m (openRecord m p (unlinkOf e)) p n = u .others (g .shape) in
     let silence = no-record (y .what) n (y .way) (sym (y .has .records) ∙ u .unopened) in
     let v : View m p n (y .entries) [] (y .backpointers) (λ a b. []) =
-    record { entries = y .has .entries; records = u .unopened; backpointers = y .has .backpointers; messages = λ a b hb. y .has .messages a b hb ∙ ap (λ (l : Mail). letters (y .what) n p l a b) silence } in
+    record {
+      entries = y .has .entries;
+      records = u .unopened;
+      backpointers = y .has .backpointers;
+      messages = λ a b hb. y .has .messages a b hb ∙ ap
+          (λ (l : Mail). letters (y .what) n p l a b) silence;
+    } in
     change-whole g o
     (record {
       what = ofEntry e;
@@ -143,7 +152,9 @@ unfolding setUp claimed
 up-whole m p u h d g =
     let x : Partition = withUp u (partition m p) in
     plain-whole m p x (record { entries = refl; backpointers = refl; records = refl; last = le-refl _ }) h
-    (neat-set m p x h (λ n. record { names = n .names; keys = n .keys; records = n .records; backpointers = n .backpointers; claimed = n .claimed; last = n .last }) (g .neat))
+    (neat-set m p x h (λ n.
+    record { names = n .names; keys = n .keys; records = n .records; backpointers = n .backpointers; claimed = n .claimed; last = n .last })
+    (g .neat))
     (λ q e.
     let y : AtRest m q = byTest (eqb q p)
     (λ t. let w : q ≡ p = eqb-true q p t in rw w (d (sym (ap (λ (z : Partition). z .up) (part-same m p x h)) ∙ (rw w at e))))
@@ -157,13 +168,15 @@ up-whole m p u h d g =
 cut-whole : (m : Model) (a b : ℕ) → Whole m → Whole (cut m a b .model)
 unfolding cut
 cut-whole m a b i =
-    check-keeps Whole _ _ m _ i λ e₁. check-keeps Whole _ _ m _ i λ e₂. check-keeps Whole _ _ m _ i λ e₃. lose-whole (sentBetween a b) (between a b) (cut-evenly a b) m i
+    check-keeps Whole _ _ m _ i λ e₁. check-keeps Whole _ _ m _ i λ e₂. check-keeps Whole _ _ m _ i λ e₃. lose-whole (sentBetween a b) (between a b)
+    (cut-evenly a b) m i
 
 crash-whole : (m : Model) (p : ℕ) → Whole m → Whole (crash m p .model)
 unfolding crash
 crash-whole m p i =
     check-keeps Whole _ _ m _ i λ e₁. check-keeps Whole _ _ m _ i λ e₂.
-    up-whole _ p false (rw (count-lose (fallsWith p) (touches p) m) (up-in m p e₂)) (λ e. crash-down m p) (lose-whole (fallsWith p) (touches p) (crash-evenly p) m i)
+    up-whole _ p false (rw (count-lose (fallsWith p) (touches p) m) (up-in m p e₂)) (λ e. crash-down m p)
+    (lose-whole (fallsWith p) (touches p) (crash-evenly p) m i)
 
 recover-whole : (m : Model) (p : ℕ) → Whole m → Whole (recover m p .model)
 unfolding recover
@@ -192,7 +205,8 @@ fresh-whole k h₀ h =
       later = λ p n t. fresh-blank k p n;
       never = λ p. fresh-blank k p 0;
       neat = λ q. elim (fresh-part k q) [ inl e ↦ rw e (blank-neat true) | inr e ↦ rw e (blank-neat false) ];
-      downs = λ p e. record { ready = fresh-none k (λ x. keep unready (x .records)) [] refl refl p; from = λ q h. fresh-queue k p q; to = λ q h. fresh-queue k q p };
+      downs = λ p e. record
+          { ready = fresh-none k (λ x. keep unready (x .records)) [] refl refl p; from = λ q h. fresh-queue k p q; to = λ q h. fresh-queue k q p };
     }
 
 -- each settling step moves one number

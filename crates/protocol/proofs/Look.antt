@@ -21,8 +21,13 @@ pub place-true : (o p d : ℕ) (s : Name) (b : Backpointer) → inPlace o p d s 
     → (b .object ≡ o) × (b .parent ≡ p) × (b .directory ≡ d) × (b .name ≡ s)
 place-true o p d s b t =
     let u = and-right (eqb (b .object) o) _ t in
-    let v = and-right (eqb (b .parent) p) _ u in
-    (eqb-true _ _ (and-left _ _ t), eqb-true _ _ (and-left _ _ u), eqb-true _ _ (and-left _ _ v), name-true _ _ (and-right (eqb (b .directory) d) _ v))
+    let v = and-right (eqb (b .parent) p) _ u in (
+      eqb-true _ _ (and-left _ _ t),
+      eqb-true _ _ (and-left _ _ u),
+      eqb-true _ _ (and-left _ _ v),
+      name-true _ _
+          (and-right (eqb (b .directory) d) _ v),
+    )
 
 pub record Shape (m : Model) : Type 0 where
   pub partitions : length (m .partitions) ≤ 4
@@ -32,7 +37,8 @@ pub record Shape (m : Model) : Type 0 where
 pub up-in : (m : Model) (p : ℕ) → partition m p .up ≡ true → p < length (m .partitions)
 unfolding partition noPartition
 up-in m p e = byTest (ltb p (length (m .partitions))) (λ t. ltb-true p (length (m .partitions)) t)
-    (λ t. no-true (sym (ap (λ (x : Partition). x .up) (List·getD-eq-default (m .partitions) noPartition {n = p} (ltb-false p (length (m .partitions)) t))) ∙ e) refl)
+    (λ t. no-true (sym (ap (λ (x : Partition). x .up)
+    (List·getD-eq-default (m .partitions) noPartition {n = p} (ltb-false p (length (m .partitions)) t))) ∙ e) refl)
 
 module _ (m : Model) (p : ℕ) (x : Partition) (h : p < length (m .partitions)) where
   pub part-same : partition (setPartition m p x) p ≡ x
@@ -43,7 +49,8 @@ module _ (m : Model) (p : ℕ) (x : Partition) (h : p < length (m .partitions)) 
   unfolding partition setPartition
   part-other q e = getD-set-other (m .partitions) p q x noPartition (eqb-false q p e)
 
-  pub part-cases : {B : Type 0} (g : Partition → B) (v : B) (q : ℕ) → (q ≡ p → g x ≡ v) → (eqb q p ≡ false → g (partition m q) ≡ v) → g (partition (setPartition m p x) q) ≡ v
+  pub part-cases : {B : Type 0} (g : Partition → B) (v : B) (q : ℕ) → (q ≡ p → g x ≡ v) → (eqb q p ≡ false → g (partition m q) ≡ v)
+      → g (partition (setPartition m p x) q) ≡ v
   part-cases g v q s o =
       byTest (eqb q p)
       (λ t. let e : q ≡ p = eqb-true q p t in rw (e, part-same) (s e))
@@ -70,5 +77,6 @@ module _ (m : Model) (a b : ℕ) (l : List Message) (ha : a < 4) (hb : b < 4) (h
       → (a′ ≡ a → b′ ≡ b → g l ≡ v) → (isQueue a b a′ b′ ≡ false → g (queue m a′ b′) ≡ v) → g (queue (setQueue m a b l) a′ b′) ≡ v
   queue-cases g v a′ b′ h s o =
       byTest (isQueue a b a′ b′)
-      (λ t. let ea : a′ ≡ a = eqb-true a′ a (and-left _ _ t) in let eb : b′ ≡ b = eqb-true b′ b (and-right (eqb a′ a) _ t) in rw (ea, eb, queue-same) (s ea eb))
+      (λ t. let ea : a′ ≡ a = eqb-true a′ a (and-left _ _ t) in let eb : b′ ≡ b = eqb-true b′ b (and-right (eqb a′ a) _ t) in rw (ea, eb, queue-same)
+      (s ea eb))
       (λ t. rw (queue-other a′ b′ h t) (o t))

@@ -29,7 +29,8 @@ nil false = refl
 module _ (f : ℕ → Record → Bool) (g : ℕ → ℕ → Bool) (m : Model) where
   pub part-lose : (q : ℕ) → partition (lose f g m) q ≡ relapsed f q (partition m q)
   unfolding partition lose noPartition mapIf
-  part-lose q = getD-mapFrom (relapsed f) noPartition (λ j. refl) (m .partitions) 0 q ∙ ap (λ (j : ℕ). relapsed f j (getD (m .partitions) q noPartition)) (zero-add q)
+  part-lose q = getD-mapFrom (relapsed f) noPartition (λ j. refl) (m .partitions) 0 q ∙ ap
+      (λ (j : ℕ). relapsed f j (getD (m .partitions) q noPartition)) (zero-add q)
 
   pub queue-lose : (a b : ℕ) → b < 4 → queue (lose f g m) a b ≡ pick (g a b) [] (queue m a b)
   unfolding queue lose
@@ -47,7 +48,8 @@ module _ (f : ℕ → Record → Bool) (g : ℕ → ℕ → Bool) (m : Model) wh
   lose-view {p} {n} {R} {M} v =
       record {
         entries = rw (part-lose p) (v .entries);
-        records = rw (part-lose p) (keep-mapIf (f p) (recordBears n) (inStage Ready) (λ x. refl) (partition m p .records) ∙ ap (mapIf (f p) (inStage Ready)) (v .records));
+        records = rw (part-lose p)
+            (keep-mapIf (f p) (recordBears n) (inStage Ready) (λ x. refl) (partition m p .records) ∙ ap (mapIf (f p) (inStage Ready)) (v .records));
         backpointers = λ q. rw (part-lose q) (v .backpointers q);
         messages = λ a b h. rw (queue-lose a b h) (off a b (g a b) ∙ ap (pick (g a b) []) (v .messages a b h));
       }
@@ -62,16 +64,20 @@ count-lose f g m = length-mapFrom (relapsed f) (m .partitions) 0
 
 pub recast : {m : Model} {p n : ℕ} {E : List Entry} {R R′ : List Record} {B : ℕ → List Backpointer} {M M′ : ℕ → ℕ → List Message}
     → View m p n E R B M → R ≡ R′ → ((a b : ℕ) → M a b ≡ M′ a b) → View m p n E R′ B M′
-recast v e f = record { entries = v .entries; records = v .records ∙ e; backpointers = v .backpointers; messages = λ a b h. v .messages a b h ∙ f a b }
+recast v e f = record
+    { entries = v .entries; records = v .records ∙ e; backpointers = v .backpointers; messages = λ a b h. v .messages a b h ∙ f a b }
 
 module _ (g : ℕ → ℕ → Bool) (even : (a b : ℕ) → g a b ≡ g b a) (p n : ℕ) (c : Content) where
-  swept : (t : Bool) (a b : ℕ) (x y : ℕ) (z : Message) → g x y ≡ t → pick (g a b) [] (one (eqb a x && eqb b y) z) ≡ pick t [] (one (eqb a x && eqb b y) z)
+  swept : (t : Bool) (a b : ℕ) (x y : ℕ) (z : Message) → g x y ≡ t
+      → pick (g a b) [] (one (eqb a x && eqb b y) z) ≡ pick t [] (one (eqb a x && eqb b y) z)
   swept t a b x y z e =
       byTest (eqb a x && eqb b y)
-      (λ u. ap (λ (w : Bool). pick w [] (one (eqb a x && eqb b y) z)) (ap₂ g (eqb-true a x (and-left _ _ u)) (eqb-true b y (and-right (eqb a x) _ u)) ∙ e))
+      (λ u. ap (λ (w : Bool). pick w [] (one (eqb a x && eqb b y) z))
+      (ap₂ g (eqb-true a x (and-left _ _ u)) (eqb-true b y (and-right (eqb a x) _ u)) ∙ e))
       (λ u. rw u (nil (g a b) ∙ sym (nil t)))
 
-  pub letters-swept : (t : Bool) (l : Mail) → g p (c .partition) ≡ t → (a b : ℕ) → pick (g a b) [] (letters c n p l a b) ≡ pick t [] (letters c n p l a b)
+  pub letters-swept : (t : Bool) (l : Mail) → g p (c .partition) ≡ t → (a b : ℕ)
+      → pick (g a b) [] (letters c n p l a b) ≡ pick t [] (letters c n p l a b)
   letters-swept t silent e a b = nil (g a b) ∙ sym (nil t)
   letters-swept t (out k) e a b = swept t a b p (c .partition) (messageAt c n k Request) e
   letters-swept t (home k x) e a b = swept t a b (c .partition) p (messageAt c n k x) (even (c .partition) p ∙ e)
@@ -83,7 +89,9 @@ module _ (f : ℕ → Record → Bool) (g : ℕ → ℕ → Bool) (m : Model) wh
   pub lose-down : (p : ℕ) → AtRest m p → AtRest (lose f g m) p
   lose-down p d =
       record {
-        ready = rw (part-lose f g m p) (none-of _ (let a = length-keep-mapIf unready (f p) (inStage Ready) (λ x e. no-true e refl) (partition m p .records) in let b = ap length (d .ready) in omega arith));
+        ready = rw (part-lose f g m p)
+            (none-of _ (let a = length-keep-mapIf unready (f p) (inStage Ready) (λ x e. no-true e refl) (partition m p .records) in let b = ap length
+            (d .ready) in omega arith));
         from = λ q h. queue-lose f g m p q h ∙ ap (pick (g p q) []) (d .from q h) ∙ nil (g p q);
         to = λ q h. queue-lose f g m q p h ∙ ap (pick (g q p) []) (d .to q h) ∙ nil (g q p);
       }
@@ -142,4 +150,5 @@ fresh-one k h = simp length-replicate h
 
 pub blank-neat : (u : Bool) → Neat (record { up = u; last = 0; entries = []; backpointers = []; records = [] })
 unfolding keep claimed
-blank-neat u = record { names = λ d s. lit≤ tt; keys = λ o a d s. lit≤ tt; records = lit≤ tt; backpointers = lit≤ tt; claimed = lit≤ tt; last = lit≤ tt }
+blank-neat u = record
+    { names = λ d s. lit≤ tt; keys = λ o a d s. lit≤ tt; records = lit≤ tt; backpointers = lit≤ tt; claimed = lit≤ tt; last = lit≤ tt }

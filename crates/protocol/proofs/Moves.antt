@@ -13,7 +13,8 @@ use Rattle.protocol.proofs.Numbers.{Else, View}
 use Rattle.protocol.proofs.Whole.{Moved, Sound, Way, Whole, load, mailOf, ofBackpointer, ofEntry, recsOf, sound-else, weigh}
 
 -- what a number has, but for its way
-module _ (m : Model) (p n : ℕ) (c : Content) (s : Shape m) (h : partition m p .up ≡ true) (B : ℕ → List Backpointer) (bf : (q : ℕ) (b : Backpointer) → List·Memᴰ b (B q) → Fine m (ofBackpointer q b)) where
+module _ (m : Model) (p n : ℕ) (c : Content) (s : Shape m) (h : partition m p .up ≡ true) (B : ℕ → List Backpointer)
+    (bf : (q : ℕ) (b : Backpointer) → List·Memᴰ b (B q) → Fine m (ofBackpointer q b)) where
   -- to another way
   pub move : {m′ : Model} {k : ℕ} (E : List Entry) (w : Way) → Else m m′ p n → View m′ p n E (recsOf c n w) B (letters c n p (mailOf w)) → Sound m c w
       → length E ≤ 1 → ((e : Entry) → List·Memᴰ e E → Fine m (ofEntry e)) → weigh E w < k → Moved m m′ p n k

@@ -26,20 +26,33 @@ pub record Neat (x : Partition) : Type 0 where
 abbrev pub Neats : Model → Type 0
 Neats m = (q : ℕ) → Neat (partition m q)
 
-pub neat-set : (m : Model) (p : ℕ) (x : Partition) → p < length (m .partitions) → (Neat (partition m p) → Neat x) → Neats m → Neats (setPartition m p x)
+pub neat-set : (m : Model) (p : ℕ) (x : Partition) → p < length (m .partitions) → (Neat (partition m p) → Neat x) → Neats m
+    → Neats (setPartition m p x)
 neat-set m p x h f n q =
     byTest (eqb q p)
     (λ t. rw (eqb-true q p t, part-same m p x h) (f (n p)))
     (λ t. rw (part-other m p x h q t) (n q))
 
 -- records change
-pub neat-records : (x : Partition) (l : List Record) → length l ≤ 16 → length (keep (unentered (x .entries)) l) ≤ length (keep (unentered (x .entries)) (x .records)) → Neat x → Neat (withRecords x l)
+pub neat-records : (x : Partition) (l : List Record) → length l ≤ 16
+    → length (keep (unentered (x .entries)) l) ≤ length (keep (unentered (x .entries)) (x .records)) → Neat x → Neat (withRecords x l)
 unfolding claimed
-neat-records x l a b n = record { names = n .names; keys = n .keys; records = a; backpointers = n .backpointers; claimed = let c = n .claimed in omega arith; last = n .last }
+neat-records x l a b n =
+    record {
+      names = n .names;
+      keys = n .keys;
+      records = a;
+      backpointers = n .backpointers;
+      claimed = let c = n .claimed in omega arith;
+      last =
+          n .last;
+    }
 
 -- in place, to no more open additions
-pub neat-alter : (x : Partition) (f : Record → Bool) (u : Record → Record) → ((r : Record) → unentered (x .entries) (u r) ≡ true → unentered (x .entries) r ≡ true) → Neat x → Neat (withRecords x (mapIf f u (x .records)))
-neat-alter x f u h n = neat-records x (mapIf f u (x .records)) (rw (length-mapIf f u (x .records)) (n .records)) (length-keep-mapIf (unentered (x .entries)) f u h (x .records)) n
+pub neat-alter : (x : Partition) (f : Record → Bool) (u : Record → Record)
+    → ((r : Record) → unentered (x .entries) (u r) ≡ true → unentered (x .entries) r ≡ true) → Neat x → Neat (withRecords x (mapIf f u (x .records)))
+neat-alter x f u h n = neat-records x (mapIf f u (x .records)) (rw (length-mapIf f u (x .records)) (n .records))
+    (length-keep-mapIf (unentered (x .entries)) f u h (x .records)) n
 
 pub neat-stage : (x : Partition) (f : Record → Bool) (s : Stage) → Neat x → Neat (withRecords x (mapIf f (inStage s) (x .records)))
 neat-stage x f s n = neat-alter x f (inStage s) (λ r e. e) n
@@ -48,7 +61,8 @@ pub neat-turn : (x : Partition) (f : Record → Bool) → Neat x → Neat (withR
 neat-turn x f n = neat-alter x f turned (λ r e. no-true e refl) n
 
 pub neat-close : (x : Partition) (f : Record → Bool) → Neat x → Neat (withRecords x (without f (x .records)))
-neat-close x f n = neat-records x (without f (x .records)) (le-trans (length-without f (x .records)) (n .records)) (length-keep-without (unentered (x .entries)) f (x .records)) n
+neat-close x f n = neat-records x (without f (x .records)) (le-trans (length-without f (x .records)) (n .records))
+    (length-keep-without (unentered (x .entries)) f (x .records)) n
 
 -- an unlink opens
 pub neat-unlink : (x : Partition) (r : Record) → r .kind ≡ Unlink → length (x .records) < 16 → Neat x → Neat (withRecords x (x .records ++ r ∷ []))
@@ -73,7 +87,8 @@ neat-more x r a b n =
     hit-one false = omega arith
 
 -- back-pointers come and go
-pub neat-grow : (x : Partition) (b : Backpointer) → length (keep (inPlace (b .object) (b .parent) (b .directory) (b .name)) (x .backpointers)) ≡ 0 → length (x .backpointers) < 64 → Neat x → Neat (withBackpointers x (x .backpointers ++ b ∷ []))
+pub neat-grow : (x : Partition) (b : Backpointer) → length (keep (inPlace (b .object) (b .parent) (b .directory) (b .name)) (x .backpointers)) ≡ 0
+    → length (x .backpointers) < 64 → Neat x → Neat (withBackpointers x (x .backpointers ++ b ∷ []))
 unfolding claimed
 neat-grow x b e h n =
     record {
@@ -103,8 +118,10 @@ neat-shrink x f n =
     }
 
 -- entries come and go
-pub neat-enter : (x : Partition) (e : Entry) (r : Record) → keep (standsUnder (e .directory) (e .name)) (x .entries) ≡ [] → keep (entryBears (e .number)) (x .entries) ≡ []
-    → keep (recordBears (e .number)) (x .records) ≡ r ∷ [] → r .number ≡ e .number → adds (r .kind) ≡ true → Neat x → Neat (withEntries x (x .entries ++ e ∷ []))
+pub neat-enter : (x : Partition) (e : Entry) (r : Record) → keep (standsUnder (e .directory) (e .name)) (x .entries) ≡ []
+    → keep (entryBears (e .number)) (x .entries) ≡ []
+    → keep (recordBears (e .number)) (x .records) ≡ r ∷ [] → r .number ≡ e .number → adds (r .kind) ≡ true → Neat x
+    → Neat (withEntries x (x .entries ++ e ∷ []))
 unfolding claimed
 neat-enter x e r nn ne kr rn ra n =
     record {
@@ -124,14 +141,19 @@ neat-enter x e r nn ne kr rn ra n =
           let g′ : Record → Bool = unentered (x .entries ++ e ∷ []) in
           let a = length-split f g (x .records) in
           let b = length-split f g′ (x .records) in
-          let c = keep-cong f g g′ (λ y t. ap (λ (k : List Entry). adds (y .kind) && isNone k) (keep-snoc-other (entryBears (y .number)) (x .entries) e (ne-eqb (e .number) (y .number) (λ q. eqb-false (y .number) (e .number) t (sym q))))) (x .records) in
+          let c = keep-cong f g g′
+          (λ y t. ap (λ (k : List Entry). adds (y .kind) && isNone k)
+          (keep-snoc-other (entryBears (y .number)) (x .entries) e
+          (ne-eqb (e .number) (y .number) (λ q. eqb-false (y .number) (e .number) t (sym q))))) (x .records) in
           let d : length (keep g (keep f (x .records))) ≡ 1 = rw kr (single g r ∙ rw (ra, rn, ne) refl) in
-          let d′ : length (keep g′ (keep f (x .records))) ≡ 0 = rw kr (single g′ r ∙ rw (ra, rn, keep-snoc (entryBears (e .number)) (x .entries) e, ne, eqb-same (e .number)) refl) in
+          let d′ : length (keep g′ (keep f (x .records))) ≡ 0 = rw kr
+          (single g′ r ∙ rw (ra, rn, keep-snoc (entryBears (e .number)) (x .entries) e, ne, eqb-same (e .number)) refl) in
           let h = n .claimed in let k = snoc-length (x .entries) e in omega arith;
       last = n .last;
     }
 
-pub neat-leave : (x : Partition) (n : ℕ) (r : Record) → keep (recordBears n) (x .records) ≡ r ∷ [] → r .kind ≡ Unlink → Neat x → Neat (withEntries x (without (entryBears n) (x .entries)))
+pub neat-leave : (x : Partition) (n : ℕ) (r : Record) → keep (recordBears n) (x .records) ≡ r ∷ [] → r .kind ≡ Unlink → Neat x
+    → Neat (withEntries x (without (entryBears n) (x .entries)))
 unfolding claimed
 neat-leave x n r kr ru nt =
     record {
@@ -146,7 +168,8 @@ neat-leave x n r kr ru nt =
           let a = length-split f g (x .records) in
           let b = length-split f g′ (x .records) in
           let c = keep-cong f g g′ (λ y t. ap (λ (k : List Entry). adds (y .kind) && isNone k)
-          (keep-without-other (entryBears n) (entryBears (y .number)) (λ z u. ne-eqb (z .number) (y .number) (λ q. eqb-false (y .number) n t (sym q ∙ eqb-true (z .number) n u))) (x .entries))) (x .records) in
+          (keep-without-other (entryBears n) (entryBears (y .number))
+          (λ z u. ne-eqb (z .number) (y .number) (λ q. eqb-false (y .number) n t (sym q ∙ eqb-true (z .number) n u))) (x .entries))) (x .records) in
           let d : length (keep g′ (keep f (x .records))) ≡ 0 = rw kr (single g′ r ∙ rw ru refl) in
           let h = nt .claimed in let k = length-without (entryBears n) (x .entries) in omega arith;
       last = nt .last;

@@ -38,10 +38,14 @@ pub record Else (m m′ : Model) (p n : ℕ) : Type 0 where
   pub neat : Neats m → Neats m′
   pub still : (q : ℕ) → partition m q .up ≡ false → partition m′ q .records ≡ partition m q .records
   pub quiet : (a b : ℕ) → b < 4 → partition m a .up && partition m b .up ≡ false → queue m′ a b ≡ queue m a b
-  pub entries : (p′ n′ : ℕ) → here p n p′ n′ ≡ false → keep (entryBears n′) (partition m′ p′ .entries) ≡ keep (entryBears n′) (partition m p′ .entries)
-  pub records : (p′ n′ : ℕ) → here p n p′ n′ ≡ false → keep (recordBears n′) (partition m′ p′ .records) ≡ keep (recordBears n′) (partition m p′ .records)
-  pub backpointers : (p′ n′ : ℕ) → here p n p′ n′ ≡ false → (q : ℕ) → keep (backpointerBears p′ n′) (partition m′ q .backpointers) ≡ keep (backpointerBears p′ n′) (partition m q .backpointers)
-  pub messages : (p′ n′ : ℕ) → here p n p′ n′ ≡ false → (a b : ℕ) → b < 4 → keep (about a b p′ n′) (queue m′ a b) ≡ keep (about a b p′ n′) (queue m a b)
+  pub entries : (p′ n′ : ℕ) → here p n p′ n′ ≡ false
+      → keep (entryBears n′) (partition m′ p′ .entries) ≡ keep (entryBears n′) (partition m p′ .entries)
+  pub records : (p′ n′ : ℕ) → here p n p′ n′ ≡ false
+      → keep (recordBears n′) (partition m′ p′ .records) ≡ keep (recordBears n′) (partition m p′ .records)
+  pub backpointers : (p′ n′ : ℕ) → here p n p′ n′ ≡ false → (q : ℕ)
+      → keep (backpointerBears p′ n′) (partition m′ q .backpointers) ≡ keep (backpointerBears p′ n′) (partition m q .backpointers)
+  pub messages : (p′ n′ : ℕ) → here p n p′ n′ ≡ false → (a b : ℕ) → b < 4
+      → keep (about a b p′ n′) (queue m′ a b) ≡ keep (about a b p′ n′) (queue m a b)
 
 pub else-trans : {m m′ m″ : Model} {p n : ℕ} → Else m m′ p n → Else m′ m″ p n → Else m m″ p n
 else-trans x y =
@@ -93,9 +97,11 @@ pub record Differs (p n q : ℕ) (x y : Partition) : Type 0 where
   pub neat : Neat y → Neat x
   pub entries : (n′ : ℕ) → here p n q n′ ≡ false → keep (entryBears n′) (x .entries) ≡ keep (entryBears n′) (y .entries)
   pub records : (n′ : ℕ) → here p n q n′ ≡ false → keep (recordBears n′) (x .records) ≡ keep (recordBears n′) (y .records)
-  pub backpointers : (p′ n′ : ℕ) → here p n p′ n′ ≡ false → keep (backpointerBears p′ n′) (x .backpointers) ≡ keep (backpointerBears p′ n′) (y .backpointers)
+  pub backpointers : (p′ n′ : ℕ) → here p n p′ n′ ≡ false
+      → keep (backpointerBears p′ n′) (x .backpointers) ≡ keep (backpointerBears p′ n′) (y .backpointers)
 
-part-else : (m : Model) (p n q : ℕ) → Shape m → partition m q .up ≡ true → (x : Partition) → Differs p n q x (partition m q) → Else m (setPartition m q x) p n
+part-else : (m : Model) (p n q : ℕ) → Shape m → partition m q .up ≡ true → (x : Partition) → Differs p n q x (partition m q)
+    → Else m (setPartition m q x) p n
 part-else m p n q s u x d =
     let h : q < length (m .partitions) = up-in m q u in
     record {
@@ -106,8 +112,10 @@ part-else m p n q s u x d =
       neat = neat-set m q x h (d .neat);
       still = λ r e. part-cases m q x h (λ (y : Partition). y .records) _ r (λ t. no-true u (rw t at e)) (λ t. refl);
       quiet = λ a b hb e. queue-part m q x a b;
-      entries = λ p′ n′ e. part-cases m q x h (λ (y : Partition). keep (entryBears n′) (y .entries)) _ p′ (λ t. d .entries n′ (rw t at e) ∙ rw t refl) (λ t. refl);
-      records = λ p′ n′ e. part-cases m q x h (λ (y : Partition). keep (recordBears n′) (y .records)) _ p′ (λ t. d .records n′ (rw t at e) ∙ rw t refl) (λ t. refl);
+      entries = λ p′ n′ e. part-cases m q x h (λ (y : Partition). keep (entryBears n′) (y .entries)) _ p′
+          (λ t. d .entries n′ (rw t at e) ∙ rw t refl) (λ t. refl);
+      records = λ p′ n′ e. part-cases m q x h (λ (y : Partition). keep (recordBears n′) (y .records)) _ p′
+          (λ t. d .records n′ (rw t at e) ∙ rw t refl) (λ t. refl);
       backpointers = λ p′ n′ e. part-field m q x h (λ (y : Partition). keep (backpointerBears p′ n′) (y .backpointers)) (d .backpointers p′ n′ e);
       messages = λ p′ n′ e a b hb. rw (queue-part m q x) refl;
     }
@@ -122,7 +130,8 @@ module _ (m : Model) (p n : ℕ) (s : Shape m) (u : partition m p .up ≡ true) 
       record {
         entries = ap (λ (y : Partition). keep (entryBears n) (y .entries)) (part-same m p x h) ∙ e;
         records = ap (λ (y : Partition). keep (recordBears n) (y .records)) (part-same m p x h) ∙ r;
-        backpointers = λ q. part-field m p x h (λ (y : Partition). keep (backpointerBears p n) (y .backpointers)) (ap (keep (backpointerBears p n)) b) q ∙ v .backpointers q;
+        backpointers = λ q. part-field m p x h (λ (y : Partition). keep (backpointerBears p n) (y .backpointers))
+            (ap (keep (backpointerBears p n)) b) q ∙ v .backpointers q;
         messages = λ a b hb. rw (queue-part m p x) (v .messages a b hb);
       }
 
@@ -133,7 +142,15 @@ module _ (m : Model) (p n : ℕ) (s : Shape m) (u : partition m p .up ≡ true) 
     unfolding changeRecords
     records-else w o =
         part-else m p n p s u _
-        (record { up = refl; last = refl; neat = w; entries = λ n′ e. refl; records = λ n′ e. o n′ (here-num p n n′ e) (partition m p .records); backpointers = λ p′ n′ e. refl })
+        (record {
+          up = refl;
+          last = refl;
+          neat = w;
+          entries = λ n′ e. refl;
+          records = λ n′ e. o n′ (here-num p n n′ e)
+              (partition m p .records);
+          backpointers = λ p′ n′ e. refl;
+        })
 
     pub records-view : {E : List Entry} {R : List Record} {B : ℕ → List Backpointer} {M : ℕ → ℕ → List Message}
         → View m p n E R B M → (R′ : List Record) → keep (recordBears n) (f (partition m p .records)) ≡ R′ → View (changeRecords m p f) p n E R′ B M
@@ -147,7 +164,15 @@ module _ (m : Model) (p n : ℕ) (s : Shape m) (u : partition m p .up ≡ true) 
     unfolding changeEntries
     entries-else w o =
         part-else m p n p s u _
-        (record { up = refl; last = refl; neat = w; entries = λ n′ e. o n′ (here-num p n n′ e) (partition m p .entries); records = λ n′ e. refl; backpointers = λ p′ n′ e. refl })
+        (record {
+          up = refl;
+          last = refl;
+          neat = w;
+          entries = λ n′ e. o n′ (here-num p n n′ e) (partition m p .entries);
+          records = λ n′ e.
+              refl;
+          backpointers = λ p′ n′ e. refl;
+        })
 
     pub entries-view : {E : List Entry} {R : List Record} {B : ℕ → List Backpointer} {M : ℕ → ℕ → List Message}
         → View m p n E R B M → (E′ : List Entry) → keep (entryBears n) (f (partition m p .entries)) ≡ E′ → View (changeEntries m p f) p n E′ R B M
@@ -157,11 +182,20 @@ module _ (m : Model) (p n : ℕ) (s : Shape m) (u : partition m p .up ≡ true) 
 -- back-pointers at q with the parent p and the number n change
 module _ (m : Model) (p n q : ℕ) (s : Shape m) (u : partition m q .up ≡ true) (f : List Backpointer → List Backpointer) where
   pub backs-else : (Neat (partition m q) → Neat (withBackpointers (partition m q) (f (partition m q .backpointers))))
-      → ((p′ n′ : ℕ) → here p n p′ n′ ≡ false → (l : List Backpointer) → keep (backpointerBears p′ n′) (f l) ≡ keep (backpointerBears p′ n′) l) → Else m (changeBackpointers m q f) p n
+      → ((p′ n′ : ℕ) → here p n p′ n′ ≡ false → (l : List Backpointer) → keep (backpointerBears p′ n′) (f l) ≡ keep (backpointerBears p′ n′) l)
+      → Else m (changeBackpointers m q f) p n
   unfolding changeBackpointers
   backs-else w o =
       part-else m p n q s u _
-      (record { up = refl; last = refl; neat = w; entries = λ n′ e. refl; records = λ n′ e. refl; backpointers = λ p′ n′ e. o p′ n′ e (partition m q .backpointers) })
+      (record {
+        up = refl;
+        last = refl;
+        neat = w;
+        entries = λ n′ e. refl;
+        records = λ n′ e. refl;
+        backpointers = λ p′ n′ e. o p′ n′ e
+            (partition m q .backpointers);
+      })
 
   pub backs-view : {E : List Entry} {R : List Record} {B : ℕ → List Backpointer} {M : ℕ → ℕ → List Message}
       → View m p n E R B M → (B′ : ℕ → List Backpointer) → keep (backpointerBears p n) (f (partition m q .backpointers)) ≡ B′ q
@@ -172,13 +206,15 @@ module _ (m : Model) (p n q : ℕ) (s : Shape m) (u : partition m q .up ≡ true
       record {
         entries = part-field m q x (up-in m q u) (λ (y : Partition). keep (entryBears n) (y .entries)) refl p ∙ v .entries;
         records = part-field m q x (up-in m q u) (λ (y : Partition). keep (recordBears n) (y .records)) refl p ∙ v .records;
-        backpointers = λ q′. part-cases m q x (up-in m q u) (λ (y : Partition). keep (backpointerBears p n) (y .backpointers)) (B′ q′) q′ (λ t. e ∙ ap B′ (sym t)) (λ t. v .backpointers q′ ∙ o q′ t);
+        backpointers = λ q′. part-cases m q x (up-in m q u) (λ (y : Partition). keep (backpointerBears p n) (y .backpointers)) (B′ q′) q′
+            (λ t. e ∙ ap B′ (sym t)) (λ t. v .backpointers q′ ∙ o q′ t);
         messages = λ a b hb. rw (queue-part m q x) (v .messages a b hb);
       }
 
 -- the queue from a to b changes in messages about p's number n
 module _ (m : Model) (p n a b : ℕ) (s : Shape m) (ua : partition m a .up ≡ true) (ub : partition m b .up ≡ true) (l : List Message) where
-  pub queue-else : ((p′ n′ : ℕ) → here p n p′ n′ ≡ false → keep (about a b p′ n′) l ≡ keep (about a b p′ n′) (queue m a b)) → Else m (setQueue m a b l) p n
+  pub queue-else : ((p′ n′ : ℕ) → here p n p′ n′ ≡ false → keep (about a b p′ n′) l ≡ keep (about a b p′ n′) (queue m a b))
+      → Else m (setQueue m a b l) p n
   queue-else o =
       record {
         shape = shape-queue m a b l s;
@@ -187,7 +223,8 @@ module _ (m : Model) (p n a b : ℕ) (s : Shape m) (ua : partition m a .up ≡ t
         lasts = λ q. rw (part-queue m a b l q) refl;
         neat = λ n q. rw (part-queue m a b l q) (n q);
         still = λ q e. rw (part-queue m a b l q) refl;
-        quiet = λ a′ b′ h e. queue-cases m a b l (la a ua) (la b ub) (s .queues) (λ z. z) _ a′ b′ h (λ ea eb. no-true (ap₂ _&&_ ua ub) (rw (ea, eb) at e)) (λ t. refl);
+        quiet = λ a′ b′ h e. queue-cases m a b l (la a ua) (la b ub) (s .queues) (λ z. z) _ a′ b′ h
+            (λ ea eb. no-true (ap₂ _&&_ ua ub) (rw (ea, eb) at e)) (λ t. refl);
         entries = λ p′ n′ e. rw (part-queue m a b l p′) refl;
         records = λ p′ n′ e. rw (part-queue m a b l p′) refl;
         backpointers = λ p′ n′ e q. rw (part-queue m a b l q) refl;
@@ -199,7 +236,8 @@ module _ (m : Model) (p n a b : ℕ) (s : Shape m) (ua : partition m a .up ≡ t
       la i e = let k = s .partitions in let j = up-in m i e in omega arith
 
   pub queue-view : {E : List Entry} {R : List Record} {B : ℕ → List Backpointer} {M : ℕ → ℕ → List Message}
-      → View m p n E R B M → (M′ : ℕ → ℕ → List Message) → (keep (about a b p n) l ≡ M′ a b) → ((a′ b′ : ℕ) → isQueue a b a′ b′ ≡ false → M a′ b′ ≡ M′ a′ b′)
+      → View m p n E R B M → (M′ : ℕ → ℕ → List Message) → (keep (about a b p n) l ≡ M′ a b)
+      → ((a′ b′ : ℕ) → isQueue a b a′ b′ ≡ false → M a′ b′ ≡ M′ a′ b′)
       → View (setQueue m a b l) p n E R B M′
   queue-view v M′ e o =
       record {

@@ -23,9 +23,11 @@ pub record Opens (k : Kind) (m : Model) (p : ℕ) (c : Content) : Type 0 where
   pub inside : p < length (m .partitions)
   pub last : partition m p .last < 4294967295
   pub fine : Fine (giveNumber m p) c
-  pub others : Shape m → Else (giveNumber m p) (openRecord (giveNumber m p) p (recordAt c (suc (partition m p .last)) k Ready)) p (suc (partition m p .last))
+  pub others : Shape m
+      → Else (giveNumber m p) (openRecord (giveNumber m p) p (recordAt c (suc (partition m p .last)) k Ready)) p (suc (partition m p .last))
   pub has : Shape m → Blank m p (suc (partition m p .last))
-      → View (openRecord (giveNumber m p) p (recordAt c (suc (partition m p .last)) k Ready)) p (suc (partition m p .last)) [] (recordAt c (suc (partition m p .last)) k Ready ∷ []) (λ q. []) (λ a b. [])
+      → View (openRecord (giveNumber m p) p (recordAt c (suc (partition m p .last)) k Ready)) p (suc (partition m p .last)) []
+      (recordAt c (suc (partition m p .last)) k Ready ∷ []) (λ q. []) (λ a b. [])
 
 pub ask-cases : (k : Kind) (m : Model) (p d : ℕ) (t : Name) (q o : ℕ) (G : Model → Type 0) → G m
     → (Opens k m p (record { directory = d; name = t; partition = q; object = o })
@@ -62,7 +64,8 @@ pub unlink-cases : (m : Model) (p d : ℕ) (t : Name) (G : Model → Type 0) →
     → ((e : Entry) (es : List Entry) → Unlinks m p d t e es → G (openRecord m p (unlinkOf e))) → G (unlink m p d t .model)
 unfolding unlink
 unlink-cases m p d t G g f =
-    check-keeps G _ _ m _ g λ e₁. check-keeps G _ _ m _ g λ e₂. check-keeps G _ _ m _ g λ e₃. go e₃ (keep (standsUnder d t) (partition m p .entries)) refl
+    check-keeps G _ _ m _ g λ e₁. check-keeps G _ _ m _ g λ e₂. check-keeps G _ _ m _ g λ e₃. go e₃
+    (keep (standsUnder d t) (partition m p .entries)) refl
   where
     go : partition m p .up ≡ true → (es : List Entry) → keep (standsUnder d t) (partition m p .entries) ≡ es → G (unlinkFound m p es .model)
     go h [] q = g

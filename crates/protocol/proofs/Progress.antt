@@ -51,7 +51,8 @@ module _ (m : Model) (g : Whole m) (up : AllUp m) (p n : ℕ) (h : p < length (m
   up-perform c k (stays why) g f o = no-step o
 
   -- a resting record has a step to take
-  add-goes : (k : Kind) → adds k ≡ true → (g : Stage) → stageFits k g ≡ true → isSent g ≡ false → (entered taken : Bool) → goes (nextToAdd g entered taken) ≡ true
+  add-goes : (k : Kind) → adds k ≡ true → (g : Stage) → stageFits k g ≡ true → isSent g ≡ false → (entered taken : Bool)
+      → goes (nextToAdd g entered taken) ≡ true
   add-goes k a Ready o t true taken = refl
   add-goes k a Ready o t false taken = refl
   add-goes k a Sent o t entered taken = no-true refl t
@@ -79,30 +80,45 @@ module _ (m : Model) (g : Whole m) (up : AllUp m) (p n : ℕ) (h : p < length (m
   first-code a b [] k = absurd (k refl)
   first-code a b (y ∷ l) k = refl
 
-  up-deliver : (a b : ℕ) → a < length (m .partitions) → b < length (m .partitions) → (z : Message) → keep (about a b p n) (queue m a b) ≡ z ∷ [] → Goes
+  up-deliver : (a b : ℕ) → a < length (m .partitions) → b < length (m .partitions) → (z : Message) → keep (about a b p n) (queue m a b) ≡ z ∷ []
+      → Goes
   unfolding bare deliver check keep
-  up-deliver a b ha hb z e =
-      (Delivering a b, refl, rw (lt-ltb a _ ha, lt-ltb b _ hb, up b hb, deliver, check, bare) (first-code a b (queue m a b) (λ q. nil≢cons (sym (ap (keep (about a b p n)) q) ∙ e))))
+  up-deliver a b ha hb z e = (
+    Delivering a b,
+    refl,
+    rw (lt-ltb a _ ha, lt-ltb b _ hb, up b hb, deliver, check, bare)
+        (first-code a b (queue m a b) (λ q. nil≢cons (sym (ap (keep (about a b p n)) q) ∙ e))),
+  )
 
   four : (i : ℕ) → i < length (m .partitions) → i < 4
   four i l = let k = g .shape .partitions in omega arith
 
-  progress : (c : Content) (E : List Entry) {B : ℕ → List Backpointer} (w : Way) → Sound m c w → View m p n E (recsOf c n w) B (letters c n p (mailOf w)) → (recsOf c n w ≡ [] → ⊥) → Goes
+  progress : (c : Content) (E : List Entry) {B : ℕ → List Backpointer} (w : Way) → Sound m c w
+      → View m p n E (recsOf c n w) B (letters c n p (mailOf w)) → (recsOf c n w ≡ [] → ⊥) → Goes
   unfolding bare advance check next
   progress c E idle so v r = absurd (r refl)
-  progress c E (rests k g) so v r =
-      (Advancing p n, refl, rw (lt-ltb p _ h, up p h, v .records, advance, check, bare) (up-perform c k _ g (so .0) (rest-goes k g (so .1) (so .2) _ _)))
+  progress c E (rests k g) so v r = (
+    Advancing p n,
+    refl,
+    rw (lt-ltb p _ h, up p h, v .records, advance, check, bare)
+        (up-perform c k _ g (so .0) (rest-goes k g (so .1) (so .2) _ _)),
+  )
   progress c E (asking k) so v r =
-      up-deliver p (c .partition) h (so .partition) (messageAt c n k Request) (v .messages p (c .partition) (four _ (so .partition)) ∙ rw (eqb-same p, eqb-same (c .partition)) refl)
+      up-deliver p (c .partition) h (so .partition) (messageAt c n k Request)
+      (v .messages p (c .partition) (four _ (so .partition)) ∙ rw (eqb-same p, eqb-same (c .partition)) refl)
   progress c E (told k t) so v r =
-      up-deliver (c .partition) p (so .0 .partition) h (messageAt c n k t) (v .messages (c .partition) p (four _ h) ∙ rw (eqb-same p, eqb-same (c .partition)) refl)
+      up-deliver (c .partition) p (so .0 .partition) h (messageAt c n k t)
+      (v .messages (c .partition) p (four _ h) ∙ rw (eqb-same p, eqb-same (c .partition)) refl)
 
-move-on : (m : Model) (g : Whole m) → AllUp m → (p : ℕ) (r : Record) (l : List Record) → partition m p .records ≡ r ∷ l → (e : Event) × (isStep e ≡ true) × (accepted (bare e m) ≡ true)
+move-on : (m : Model) (g : Whole m) → AllUp m → (p : ℕ) (r : Record) (l : List Record) → partition m p .records ≡ r ∷ l
+    → (e : Event) × (isStep e ≡ true) × (accepted (bare e m) ≡ true)
 move-on m g u p r l e =
     let n : ℕ = r .number in
     let y : Fit m p n = g .local p n in
-    let f : recsOf (y .what) n (y .way) ≡ r ∷ keep (recordBears n) l = sym (y .has .records) ∙ ap (keep (recordBears n)) e ∙ keep-cons-same (recordBears n) l r (eqb-same n) in
-    let h : p < length (m .partitions) = byTest (ltb p (length (m .partitions))) (λ t. ltb-true _ _ t) (λ t. absurd (nil≢cons (sym (no-records m p (ltb-false _ _ t)) ∙ e))) in
+    let f : recsOf (y .what) n (y .way) ≡ r ∷ keep (recordBears n) l = sym (y .has .records) ∙ ap (keep (recordBears n)) e ∙ keep-cons-same
+    (recordBears n) l r (eqb-same n) in
+    let h : p < length (m .partitions) = byTest (ltb p (length (m .partitions))) (λ t. ltb-true _ _ t)
+    (λ t. absurd (nil≢cons (sym (no-records m p (ltb-false _ _ t)) ∙ e))) in
     progress m g u p n h (y .what) (y .entries) (y .way) (y .sound) (y .has) (λ q. nil≢cons (sym q ∙ f))
 
 some-record : {A : Type 0} (l : List A) → (length l ≡ 0 → ⊥) → (x : A) × (k : List A) × (l ≡ x ∷ k)

@@ -93,9 +93,11 @@ pub matched : (m : Model) → Reached m → openRecords m ≡ 0 → Matched m
 matched m g e =
     record {
       namesHold = all-held (g .ties);
-      named = λ q b h. elim (accounted (g .ties) q b h) [ inl n ↦ n | inr o ↦ absurd (closed (partition m (b .parent) .records) (closed-log m e (b .parent)) (o .1)) ];
+      named = λ q b h. elim
+          (accounted (g .ties) q b h) [ inl n ↦ n | inr o ↦ absurd (closed (partition m (b .parent) .records) (closed-log m e (b .parent)) (o .1)) ];
       entriesOnce = λ p n. let y : Tie m p n = g .ties p n in rw (y .has .entries) (one-le (y .entry) (entryAt (y .what) n));
-      backpointersOnce = λ q p n. let y : Tie m p n = g .ties p n in rw (y .has .backpointers q) (one-le (y .back && eqb q (y .what .partition)) (backpointerAt (y .what) n p));
+      backpointersOnce = λ q p n. let y : Tie m p n = g .ties p n in rw (y .has .backpointers q)
+          (one-le (y .back && eqb q (y .what .partition)) (backpointerAt (y .what) n p));
     }
   where
     closed : {r : Record} (l : List Record) → length l ≡ 0 → List·Memᴰ r l → ⊥

@@ -38,7 +38,8 @@ pub fair-order : {m : Model} {Q : Reply → Model → Type 0} {o : Outcome} → 
 fair-order (accepts n r m′ x) = refl
 fair-order (refuses why s t) = s
 
-pub fair-reply : {m : Model} {Q : Reply → Model → Type 0} {o : Outcome} → Fair m Q o → isOther (o .answer .reply) ≡ true → Q (o .answer .reply) (o .model)
+pub fair-reply : {m : Model} {Q : Reply → Model → Type 0} {o : Outcome} → Fair m Q o → isOther (o .answer .reply) ≡ true
+    → Q (o .answer .reply) (o .model)
 fair-reply (accepts n r m′ x) e = x
 fair-reply (refuses why s t) e = no-true e refl
 
@@ -62,10 +63,12 @@ turned-none n (r ∷ l) = keep-cons-other (stillAdds n) (map turned l) (turned r
 
 turn-none : (n : ℕ) (l : List Record) → keep (stillAdds n) (mapIf (recordBears n) turned l) ≡ []
 turn-none n l =
-    still-bears n (mapIf (recordBears n) turned l) ∙ rw (keep-mapIf-same (recordBears n) turned (λ r. refl) l) (turned-none n (keep (recordBears n) l))
+    still-bears n (mapIf (recordBears n) turned l) ∙ rw (keep-mapIf-same (recordBears n) turned (λ r. refl) l)
+    (turned-none n (keep (recordBears n) l))
 
 module _ (m : Model) where
-  fair-check : {Q : Reply → Model → Type 0} (t : Bool) (why : Refusal) (o : Outcome) → isOutOfOrder why ≡ false → isAccepted why ≡ false → (t ≡ true → Fair m Q o) → Fair m Q (check t why m o)
+  fair-check : {Q : Reply → Model → Type 0} (t : Bool) (why : Refusal) (o : Outcome) → isOutOfOrder why ≡ false → isAccepted why ≡ false
+      → (t ≡ true → Fair m Q o) → Fair m Q (check t why m o)
   unfolding check
   fair-check true why o s a f = f refl
   fair-check false why o s a f = refuses why s a
@@ -74,7 +77,8 @@ module _ (m : Model) where
   unfolding ask askTables
   ask-fair k p d s q o =
       fair-check _ OutOfRange _ refl refl λ e₁. fair-check _ BadName _ refl refl λ e₂. fair-check _ Down _ refl refl λ e₃.
-      fair-check _ NameExists _ refl refl λ e₄. fair-check _ NumbersSpent _ refl refl λ e₅. fair-check _ LogFull _ refl refl λ e₆. fair-check _ EntriesFull _ refl refl λ e₇.
+      fair-check _ NameExists _ refl refl λ e₄. fair-check _ NumbersSpent _ refl refl λ e₅. fair-check _ LogFull _ refl refl λ e₆.
+      fair-check _ EntriesFull _ refl refl λ e₇.
       accepts _ _ _ refl
 
   unlink-found-fair : (p : ℕ) (es : List Entry) → Fair m Quiet (unlinkFound m p es)
@@ -93,10 +97,12 @@ module _ (m : Model) where
 
   perform-fair : (p : ℕ) (r : Record) (x : Next) → partition m p .up ≡ true → OnlySent x → Fair m (Closed p (r .number)) (perform m p r x)
   unfolding perform changeRecords
-  perform-fair p r (closes reply) u h = accepts (r .number) reply (closeRecord m p (r .number)) λ e. rw (part-same m p _ (up-in m p u)) (closed-none (r .number) (partition m p .records))
+  perform-fair p r (closes reply) u h = accepts (r .number) reply (closeRecord m p (r .number)) λ e. rw (part-same m p _ (up-in m p u))
+      (closed-none (r .number) (partition m p .records))
   perform-fair p r sends u h = fair-check _ TowardsDown _ refl refl λ e. accepts _ _ _ λ f. no-true f refl
   perform-fair p r enters u h = accepts _ _ _ λ f. no-true f refl
-  perform-fair p r turns u h = accepts (r .number) NameTaken (turnRecord m p (r .number)) λ e. rw (part-same m p _ (up-in m p u)) (turn-none (r .number) (partition m p .records))
+  perform-fair p r turns u h = accepts (r .number) NameTaken (turnRecord m p (r .number)) λ e. rw (part-same m p _ (up-in m p u))
+      (turn-none (r .number) (partition m p .records))
   perform-fair p r takesOut u h = accepts _ _ _ λ f. no-true f refl
   perform-fair p r (stays why) u h = rw (h why refl) (refuses RecordSent refl refl)
 
@@ -124,17 +130,20 @@ module _ (m : Model) where
   next-sent Create g f entered taken = add-next Create refl g f entered taken
   next-sent Unlink g f entered taken = remove-next g f entered
 
-  advance-found-fair : Whole m → (p n : ℕ) → partition m p .up ≡ true → (rs : List Record) → keep (recordBears n) (partition m p .records) ≡ rs → Fair m (Closed p n) (advanceFound m p rs)
+  advance-found-fair : Whole m → (p n : ℕ) → partition m p .up ≡ true → (rs : List Record) → keep (recordBears n) (partition m p .records) ≡ rs
+      → Fair m (Closed p n) (advanceFound m p rs)
   unfolding next
   advance-found-fair w p n u [] e = refuses NoRecord refl refl
   advance-found-fair w p n u (r ∷ rs) e =
-      subst (λ (i : ℕ). Fair m (Closed p i) (perform m p r (next (partition m p) r))) (eqb-true _ _ (kept (recordBears n) (partition m p .records) r rs e))
+      subst (λ (i : ℕ). Fair m (Closed p i) (perform m p r (next (partition m p) r)))
+      (eqb-true _ _ (kept (recordBears n) (partition m p .records) r rs e))
       (perform-fair p r _ u (next-sent (r .kind) (r .stage) (record-fits m w p r (seen-mem (recordBears n) (partition m p .records) rs r e) .1) _ _))
 
   advance-fair : Whole m → (p n : ℕ) → Fair m (Closed p n) (advance m p n)
   unfolding advance
   advance-fair w p n =
-      fair-check _ OutOfRange _ refl refl λ e₁. fair-check _ Down _ refl refl λ e₂. advance-found-fair w p n e₂ (keep (recordBears n) (partition m p .records)) refl
+      fair-check _ OutOfRange _ refl refl λ e₁. fair-check _ Down _ refl refl λ e₂. advance-found-fair w p n e₂
+      (keep (recordBears n) (partition m p .records)) refl
 
   oldest-fair : (s r : ℕ) (l : List Message) → Fair m Quiet (deliverOldest m s r l)
   oldest-fair s r [] = refuses QueueEmpty refl refl
@@ -146,7 +155,8 @@ module _ (m : Model) where
 
   cut-fair : (a b : ℕ) → Fair m Quiet (cut m a b)
   unfolding cut
-  cut-fair a b = fair-check _ OutOfRange _ refl refl λ e₁. fair-check _ CutFromItself _ refl refl λ e₂. fair-check _ Down _ refl refl λ e₃. accepts _ _ _ refl
+  cut-fair a b = fair-check _ OutOfRange _ refl refl λ e₁. fair-check _ CutFromItself _ refl refl λ e₂. fair-check _ Down _ refl refl λ e₃.
+      accepts _ _ _ refl
 
   crash-fair : (p : ℕ) → Fair m Quiet (crash m p)
   unfolding crash

@@ -45,18 +45,21 @@ module _ (m : Model) (o : inOrder m ≡ true) where
 
   pub one-removed : (q a : ℕ) (x : Message) → length (keep (isExactly a x) (partition m q .backpointers)) ≤ 1
   one-removed q a x =
-      le-trans (length-keep-sub (isExactly a x) (inPlace (x .object) a (x .directory) (x .name)) (λ b e. and-right (eqb (b .number) (x .number)) _ e) (partition m q .backpointers)) (one-key q (x .object) a (x .directory) (x .name))
+      le-trans (length-keep-sub (isExactly a x) (inPlace (x .object) a (x .directory) (x .name)) (λ b e. and-right (eqb (b .number) (x .number)) _ e)
+      (partition m q .backpointers)) (one-key q (x .object) a (x .directory) (x .name))
 
   four : (i : ℕ) → i < length (m .partitions) → i < 4
   four i h = let k = w .shape .partitions in omega arith
 
-  pub request-room : (p n : ℕ) (r : Record) (rs : List Record) → keep (recordBears n) (partition m p .records) ≡ r ∷ rs → isSent (r .stage) ≡ false → length (queue m p (r .partition)) < 32
+  pub request-room : (p n : ℕ) (r : Record) (rs : List Record) → keep (recordBears n) (partition m p .records) ≡ r ∷ rs → isSent (r .stage) ≡ false
+      → length (queue m p (r .partition)) < 32
   request-room p n r rs e t = let y : Fit m p n = w .local p n in go (y .what) (y .way) (y .sound) (y .has)
     where
       not-sent : (c : Content) (k : Kind) → keep (recordBears n) (partition m p .records) ≡ recordAt c n k Sent ∷ [] → isSent (r .stage) ≡ true
       not-sent c k f = ap (λ (z : Record). isSent (z .stage)) (head-eq-of-cons-eq (sym e ∙ f))
 
-      go : (c : Content) (v : Way) → Sound m c v → {E : List Entry} {B : ℕ → List Backpointer} → View m p n E (recsOf c n v) B (letters c n p (mailOf v)) → length (queue m p (r .partition)) < 32
+      go : (c : Content) (v : Way) → Sound m c v → {E : List Entry} {B : ℕ → List Backpointer}
+          → View m p n E (recsOf c n v) B (letters c n p (mailOf v)) → length (queue m p (r .partition)) < 32
       go c idle so y = absurd (nil≢cons (sym (y .records) ∙ e))
       go c (rests k s) so y =
           let q : r .partition ≡ c .partition = ap (λ (z : Record). z .partition) (head-eq-of-cons-eq (sym e ∙ y .records)) in
@@ -65,13 +68,15 @@ module _ (m : Model) (o : inOrder m ≡ true) where
       go c (asking k) so y = no-true (not-sent c k (y .records)) t
       go c (told k s) so y = no-true (not-sent c k (y .records)) t
 
-  pub entry-room : (p n : ℕ) (r : Record) (rs : List Record) → keep (recordBears n) (partition m p .records) ≡ r ∷ rs → adds (r .kind) ≡ true → keep (entryBears n) (partition m p .entries) ≡ [] → length (partition m p .entries) < 64
+  pub entry-room : (p n : ℕ) (r : Record) (rs : List Record) → keep (recordBears n) (partition m p .records) ≡ r ∷ rs → adds (r .kind) ≡ true
+      → keep (entryBears n) (partition m p .entries) ≡ [] → length (partition m p .entries) < 64
   unfolding claimed
   entry-room p n r rs e a z =
       let i : List·Memᴰ r (partition m p .records) = seen-mem (recordBears n) (partition m p .records) rs r e in
       let q : r .number ≡ n = eqb-true _ _ (kept (recordBears n) (partition m p .records) r rs e) in
       let u : unentered (partition m p .entries) r ≡ true = both-true a (rw q (ap isNone z)) in
-      let j : 1 ≤ length (keep (unentered (partition m p .entries)) (partition m p .records)) = some-mem _ (mem-keep (unentered (partition m p .entries)) (partition m p .records) r i u) in
+      let j : 1 ≤ length (keep (unentered (partition m p .entries)) (partition m p .records)) = some-mem _
+      (mem-keep (unentered (partition m p .entries)) (partition m p .records) r i u) in
       let k : claimed (partition m p) ≤ 64 = w .neat p .claimed in
       omega arith
 
@@ -92,11 +97,13 @@ module _ (m : Model) (o : inOrder m ≡ true) where
               let ea : a′ ≡ a = eqb-true a′ a (and-left _ _ t) in let eb : b′ ≡ b = eqb-true b′ b (and-right (eqb a′ a) _ t) in
               let e : keep (about a′ b′ p n) (queue popped a′ b′) ≡ keep (about a′ b′ p n) l =
               queue-cases m a b l ha hb (w .shape .queues) (keep (about a′ b′ p n)) _ a′ b′ h (λ ea eb. refl) (λ s. no-true t s) in
-              let c : length (keep (about a′ b′ p n) (queue m a′ b′)) ≡ length (keep (about a′ b′ p n) (x ∷ l)) = ap (λ (z : List Message). length (keep (about a′ b′ p n) z)) (ap₂ (queue m) ea eb ∙ q) in
+              let c : length (keep (about a′ b′ p n) (queue m a′ b′)) ≡ length (keep (about a′ b′ p n) (x ∷ l)) = ap
+              (λ (z : List Message). length (keep (about a′ b′ p n) z)) (ap₂ (queue m) ea eb ∙ q) in
               let d = f .each p n a′ b′ h in let k = fewer (about a′ b′ p n) in let e′ = ap length e in omega arith)
               (λ t.
               let e : keep (about a′ b′ p n) (queue popped a′ b′) ≡ keep (about a′ b′ p n) (queue m a′ b′) =
-              queue-cases m a b l ha hb (w .shape .queues) (keep (about a′ b′ p n)) _ a′ b′ h (λ ea eb. no-true (both-true (eq-eqb _ _ ea) (eq-eqb _ _ eb)) t) (λ s. refl) in
+              queue-cases m a b l ha hb (w .shape .queues) (keep (about a′ b′ p n)) _ a′ b′ h
+              (λ ea eb. no-true (both-true (eq-eqb _ _ ea) (eq-eqb _ _ eb)) t) (λ s. refl) in
               let d = f .each p n a′ b′ h in let e′ = ap length e in omega arith));
           small = λ p n h. rw (part-queue m a b l p) (f .small p n (rw (part-queue m a b l p) at h));
           sixteen = λ p. rw (part-queue m a b l p) (f .sixteen p);
@@ -120,23 +127,28 @@ module _ (m : Model) (o : inOrder m ≡ true) where
         first : (M : List Message) → keep (about a b a n) (queue m a b) ≡ M → x ∷ keep (about a b a n) l ≡ M
         first M e = sym (keep-cons-same (about a b a n) l x is) ∙ ap (keep (about a b a n)) (sym q) ∙ e
 
-        go : (c : Content) (v : Way) → Sound m c v → {E : List Entry} {B : ℕ → List Backpointer} → View m a n E (recsOf c n v) B (letters c n a (mailOf v)) → length (queue popped b a) < 32
+        go : (c : Content) (v : Way) → Sound m c v → {E : List Entry} {B : ℕ → List Backpointer}
+            → View m a n E (recsOf c n v) B (letters c n a (mailOf v)) → length (queue popped b a) < 32
         go c idle so y = absurd (nil≢cons (sym (first [] (y .messages a b hb))))
         go c (rests k s) so y = absurd (nil≢cons (sym (first [] (y .messages a b hb))))
         go c (asking k) so y =
-            let u = one-cons x (messageAt c n k Request) (keep (about a b a n) l) (eqb a a && eqb b (c .partition)) (first (letters c n a (out k) a b) (y .messages a b hb)) in
+            let u = one-cons x (messageAt c n k Request) (keep (about a b a n) l) (eqb a a && eqb b (c .partition))
+            (first (letters c n a (out k) a b) (y .messages a b hb)) in
             let eb : b ≡ c .partition = eqb-true b (c .partition) (and-right (eqb a a) _ (u .0)) in
             let ex : x ≡ messageAt c n k Request = u .1 in
             let v = out-view m a n c (w .shape) up-a (rw eb at up-b) so k l (ap (queue m a) (sym eb) ∙ q ∙ ap (λ (z : Message). z ∷ l) ex) y in
-            let e : keep (about b a a n) (queue popped b a) ≡ [] = subst (λ (z : ℕ). keep (about b a a n) (queue (setQueue m a z l) b a) ≡ []) (sym eb) (v .messages b a ha) in
+            let e : keep (about b a a n) (queue popped b a) ≡ [] = subst (λ (z : ℕ). keep (about b a a n) (queue (setQueue m a z l) b a) ≡ [])
+            (sym eb) (v .messages b a ha) in
             let r : keep (recordBears n) (partition popped a .records) ≡ recordAt c n k Sent ∷ [] = rw (part-queue m a b l a) (y .records) in
             room-home popped popped-few b a ha n e (rw r (omega arith))
         go c (told k s) so y =
-            let u = one-cons x (messageAt c n k s) (keep (about a b a n) l) (eqb a (c .partition) && eqb b a) (first (letters c n a (home k s) a b) (y .messages a b hb)) in
+            let u = one-cons x (messageAt c n k s) (keep (about a b a n) l) (eqb a (c .partition) && eqb b a)
+            (first (letters c n a (home k s) a b) (y .messages a b hb)) in
             no-true (ap (λ (z : Message). isRequest (z .body)) (sym (u .1)) ∙ t) (so .2)
 
 -- an ask is accepted only where every test passed
-check-true : (t : Bool) (why : Refusal) (m : Model) (o : Outcome) → isAccepted why ≡ false → accepted (check t why m o) ≡ true → (t ≡ true) × (accepted o ≡ true)
+check-true : (t : Bool) (why : Refusal) (m : Model) (o : Outcome) → isAccepted why ≡ false → accepted (check t why m o) ≡ true
+    → (t ≡ true) × (accepted o ≡ true)
 unfolding check
 check-true true why m o n e = (refl, e)
 check-true false why m o n e = no-true e n

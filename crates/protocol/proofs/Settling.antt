@@ -44,7 +44,8 @@ deliveries-steps m = all-each isStep (partitionCount m) _ (λ s. all-each isStep
 candidates-steps : (m : Model) → all isStep (candidates m) ≡ true
 candidates-steps m = all-append isStep (advances m) (deliveries m) (advances-steps m) (deliveries-steps m)
 
-map-mem : (p : ℕ) (l : List Record) (r : Record) → List·Memᴰ r l → List·Memᴰ (Advancing p (r .number)) (map (λ (y : Record). Advancing p (y .number)) l)
+map-mem : (p : ℕ) (l : List Record) (r : Record) → List·Memᴰ r l
+    → List·Memᴰ (Advancing p (r .number)) (map (λ (y : Record). Advancing p (y .number)) l)
 map-mem p l r (List·Memᴰ·head e) = List·Memᴰ·head (ap (λ (y : Record). Advancing p (y .number)) e)
 map-mem p (y ∷ l) r (List·Memᴰ·tail i) = List·Memᴰ·tail (map-mem p l r i)
 
@@ -57,7 +58,8 @@ advance-candidate m p n e =
     (λ t. no-step (rw (w, t) at e)))
     (λ w. no-step (rw w at e))
   where
-    go : p < length (m .partitions) → (rs : List Record) → keep (recordBears n) (partition m p .records) ≡ rs → accepted (advanceFound m p rs) ≡ true → List·Memᴰ (Advancing p n) (candidates m)
+    go : p < length (m .partitions) → (rs : List Record) → keep (recordBears n) (partition m p .records) ≡ rs → accepted (advanceFound m p rs) ≡ true
+        → List·Memᴰ (Advancing p n) (candidates m)
     go h [] q c = no-step c
     go h (r ∷ rs) q c =
         let i : List·Memᴰ r (partition m p .records) = seen-mem (recordBears n) (partition m p .records) rs r q in
@@ -71,7 +73,8 @@ deliver-candidate m s r e =
     byTest (isPartition m s && isPartition m r)
     (λ w. Memᴰ·append-right (advances m)
     (each-mem (length (m .partitions)) _ s (Delivering s r) (ltb-true _ _ (and-left _ _ w))
-    (each-mem (length (m .partitions)) (λ q. Delivering s q ∷ []) r (Delivering s r) (ltb-true _ _ (and-right (isPartition m s) _ w)) (List·Memᴰ·head refl))))
+    (each-mem (length (m .partitions)) (λ q. Delivering s q ∷ []) r (Delivering s r) (ltb-true _ _ (and-right (isPartition m s) _ w))
+    (List·Memᴰ·head refl))))
     (λ w. no-step (rw w at e))
 
 bare-candidate : (e : Event) (m : Model) → isStep e ≡ true → accepted (bare e m) ≡ true → List·Memᴰ e (candidates m)
@@ -124,7 +127,8 @@ module _ (f : Event → Model → Outcome) (n : ℕ) (t : Tally) (m : Model) whe
   unfolding settleBy
   settle-nothing h = rw (h, settleBy) refl
 
-  settle-found : (e : Event) → firstAccepted f m (candidates m) ≡ found e → settleBy f (suc n) t m ≡ settleBy f n (tallied (f e m .answer .reply) t) (f e m .model)
+  settle-found : (e : Event) → firstAccepted f m (candidates m) ≡ found e
+      → settleBy f (suc n) t m ≡ settleBy f n (tallied (f e m .answer .reply) t) (f e m .model)
   unfolding settleBy
   settle-found e h = rw (h, settleBy) refl
 
@@ -151,7 +155,8 @@ unfolding answers run
 settle-runs zero t m = unfold settleBy stepsBy in refl
 settle-runs (suc n) t m = go (firstAccepted apply m (candidates m)) refl (settle-runs n)
   where
-    go : (x : Found) → firstAccepted apply m (candidates m) ≡ x → ((t : Tally) (m : Model) → AsRun n t m (stepsBy apply n m)) → AsRun (suc n) t m (stepsBy apply (suc n) m)
+    go : (x : Found) → firstAccepted apply m (candidates m) ≡ x → ((t : Tally) (m : Model) → AsRun n t m (stepsBy apply n m))
+        → AsRun (suc n) t m (stepsBy apply (suc n) m)
     go nothing h ih = rw (steps-nothing apply n t m h, settle-nothing apply n t m h) refl
     go (found e) h ih = rw (steps-found apply n t m e h, settle-found apply n t m e h) (ih (tallied (apply e m .answer .reply) t) (apply e m .model))
 
@@ -163,10 +168,12 @@ pub record Steps (n : ℕ) (m : Model) (es : List Event) : Type 0 where
   pub stops : (length es ≡ n) ⊎ (firstAccepted apply (run es m) (candidates (run es m)) ≡ nothing)
 
 pub settle-steps : (n : ℕ) (m : Model) → Steps n m (stepsBy apply n m)
-settle-steps zero m = unfold stepsBy all acceptedIn answers keep in (record { areSteps = refl; allAccepted = refl; most = le-refl 0; stops = inl refl })
+settle-steps zero m = unfold stepsBy all acceptedIn answers keep in
+    (record { areSteps = refl; allAccepted = refl; most = le-refl 0; stops = inl refl })
 settle-steps (suc n) m = go (firstAccepted apply m (candidates m)) refl (settle-steps n)
   where
-    go : (x : Found) → firstAccepted apply m (candidates m) ≡ x → ((m : Model) → Steps n m (stepsBy apply n m)) → Steps (suc n) m (stepsBy apply (suc n) m)
+    go : (x : Found) → firstAccepted apply m (candidates m) ≡ x → ((m : Model) → Steps n m (stepsBy apply n m))
+        → Steps (suc n) m (stepsBy apply (suc n) m)
     go nothing h ih =
         rw (steps-nothing apply n zeroTally m h)
         (unfold all acceptedIn answers keep run in (record { areSteps = refl; allAccepted = refl; most = omega arith; stops = inr h }))
@@ -207,7 +214,8 @@ answers-length (e ∷ es) m = ap suc (answers-length es (apply e m .model))
 
 -- ---- settle, from tables in order
 
-no-more : (m : Model) → inOrder m ≡ true → firstAccepted apply m (candidates m) ≡ nothing → (e : Event) → isStep e ≡ true → accepted (apply e m) ≡ false
+no-more : (m : Model) → inOrder m ≡ true → firstAccepted apply m (candidates m) ≡ nothing → (e : Event) → isStep e ≡ true
+    → accepted (apply e m) ≡ false
 no-more m o h e t =
     byTest (accepted (apply e m))
     (λ a. nothing-first apply m (candidates m) h e (bare-candidate e m t (ap accepted (sym (apply-is e m o)) ∙ a)))
@@ -235,8 +243,10 @@ settle-takes n t m o =
       allAccepted = r .allAccepted;
       reaches = ap (λ (z : Settled). z .model) q;
       counts = ap (λ (z : Settled). z .tally .steps) q ∙ tally-steps zeroTally (answers es m) ∙ add-zero _ ∙ answers-length es m;
-      ones = ap (λ (z : Settled). z .tally .ones) q ∙ tally-replies (λ (y : Tally). y .ones) isOne (λ r y. refl) zeroTally (answers es m) ∙ add-zero _;
-      others = ap (λ (z : Settled). z .tally .others) q ∙ tally-replies (λ (y : Tally). y .others) isOther (λ r y. refl) zeroTally (answers es m) ∙ add-zero _;
+      ones = ap (λ (z : Settled). z .tally .ones) q ∙ tally-replies (λ (y : Tally). y .ones) isOne (λ r y. refl) zeroTally (answers es m)
+          ∙ add-zero _;
+      others = ap (λ (z : Settled). z .tally .others) q ∙ tally-replies (λ (y : Tally). y .others) isOther (λ r y. refl) zeroTally (answers es m)
+          ∙ add-zero _;
       most = r .most;
       eight = let b = bound es m o (r .areSteps) in let c = r .allAccepted in omega arith;
       stops = elim (r .stops) [ inl e ↦ inl e | inr e ↦ inr (no-more (run es m) (run-order es m o) e) ];
@@ -256,7 +266,9 @@ settle-bare : (n : ℕ) (t : Tally) (m : Model) → inOrder m ≡ true → settl
 settle-bare zero t m o = unfold settleBy in refl
 settle-bare (suc n) t m o = go (firstAccepted bare m (candidates m)) refl (settle-bare n)
   where
-    go : (x : Found) → firstAccepted bare m (candidates m) ≡ x → ((t : Tally) (m : Model) → inOrder m ≡ true → settleBy apply n t m ≡ settleBy bare n t m) → settleBy apply (suc n) t m ≡ settleBy bare (suc n) t m
+    go : (x : Found) → firstAccepted bare m (candidates m) ≡ x
+        → ((t : Tally) (m : Model) → inOrder m ≡ true → settleBy apply n t m ≡ settleBy bare n t m)
+        → settleBy apply (suc n) t m ≡ settleBy bare (suc n) t m
     go nothing h ih = settle-nothing apply n t m (first-is m o (candidates m) ∙ h) ∙ sym (settle-nothing bare n t m h)
     go (found e) h ih =
         settle-found apply n t m e (first-is m o (candidates m) ∙ h)
@@ -278,7 +290,8 @@ accepted-snoc [] e m = accepted-more e [] m ∙ (unfold acceptedIn answers keep 
 accepted-snoc (x ∷ es) e m =
     let a = accepted-more x (es ++ e ∷ []) m in let b = accepted-more x es m in let c = accepted-snoc es e (apply x m .model) in omega arith
 
-pub steps-empty : (es : List Event) (m : Model) → inOrder m ≡ true → AllUp m → all isStep es ≡ true → 8 * openRecords m ≤ acceptedIn es m → openRecords (run es m) ≡ 0
+pub steps-empty : (es : List Event) (m : Model) → inOrder m ≡ true → AllUp m → all isStep es ≡ true → 8 * openRecords m ≤ acceptedIn es m
+    → openRecords (run es m) ≡ 0
 steps-empty es m o u st h =
     byTest (eqb (openRecords (run es m)) 0)
     (λ t. eqb-true _ 0 t)
@@ -297,7 +310,8 @@ settle-empties n t m o u h =
     (elim (r .stops) [
       | inl e ↦ steps-empty es m o u (r .areSteps) (let a = r .allAccepted in omega arith)
       | inr e ↦ byTest (eqb (openRecords (run es m)) 0) (λ z. eqb-true _ 0 z)
-          (λ z. let x = go-on (run es m) (run-order es m o) (steps-up es m o (r .areSteps) u) (eqb-false _ 0 z) in no-true (x .2) (no-more (run es m) (run-order es m o) e (x .0) (x .1)))
+          (λ z. let x = go-on (run es m) (run-order es m o) (steps-up es m o (r .areSteps) u) (eqb-false _ 0 z) in no-true (x .2)
+          (no-more (run es m) (run-order es m o) e (x .0) (x .1)))
     ])
 
 -- four partitions have at most 64 records open

@@ -40,7 +40,8 @@ of-same : (c : Content) (n : ℕ) (k : Kind) (s : Stage) (t : Body) → matches 
 unfolding matches
 of-same c n k s t =
     every-of _
-    (eqb-same n also kind-same k also eqb-same (c .directory) also eqb-same (c .partition) also eqb-same (c .object) also name-same (c .name) also done)
+    (eqb-same n also kind-same k also eqb-same (c .directory) also eqb-same (c .partition) also eqb-same (c .object) also name-same (c .name)
+    also done)
 
 of-num : (r : Record) (x : Message) → matches r x ≡ true → eqb (x .number) (r .number) ≡ true
 unfolding matches
@@ -50,7 +51,8 @@ pub asks-about : (r : Record) (p q : ℕ) (x : Message) → isRequestOf r x ≡ 
 asks-about r p q x e = both-true (eq-eqb _ p (request-giver p q (x .body) (and-left _ _ e))) (of-num r x (and-right (isRequest (x .body)) _ e))
 
 pub answers-about : (r : Record) (p q : ℕ) (x : Message) → isAnswerTo r x ≡ true → about q p p (r .number) x ≡ true
-answers-about r p q x e = both-true (eq-eqb _ p (answer-giver q p (x .body) (and-left _ _ e))) (of-num r x (and-right (not (isRequest (x .body))) _ e))
+answers-about r p q x e = both-true (eq-eqb _ p (answer-giver q p (x .body) (and-left _ _ e)))
+    (of-num r x (and-right (not (isRequest (x .body))) _ e))
 
 count-one : (g : Message → Bool) (x : Message) → g x ≡ true → length (keep g (x ∷ [])) ≡ 1
 unfolding keep
@@ -67,23 +69,28 @@ module _ (m : Model) (p n : ℕ) (c : Content) (s : Shape m) (h : p < length (m 
 
   two : (k : Kind) (l : Mail) → keep (about p (c .partition) p n) (queue m p (c .partition)) ≡ letters c n p l p (c .partition)
       → keep (about (c .partition) p p n) (queue m (c .partition) p) ≡ letters c n p l (c .partition) p
-      → length (keep (isRequestOf (recordAt c n k Sent)) (letters c n p l p (c .partition))) + length (keep (isAnswerTo (recordAt c n k Sent)) (letters c n p l (c .partition) p)) ≡ 1 → hasOneMessage m p (recordAt c n k Sent) ≡ true
+      → length (keep (isRequestOf (recordAt c n k Sent)) (letters c n p l p (c .partition))) + length
+      (keep (isAnswerTo (recordAt c n k Sent)) (letters c n p l (c .partition) p)) ≡ 1 → hasOneMessage m p (recordAt c n k Sent) ≡ true
   two k l a b e =
       let r : Record = recordAt c n k Sent in
       eq-eqb _ 1
       (ap₂ (λ (x y : List Message). length x + length y)
       (keep-sub (isRequestOf r) (about p (c .partition) p n) (asks-about r p (c .partition)) (queue m p (c .partition)) ∙ ap (keep (isRequestOf r)) a)
-      (keep-sub (isAnswerTo r) (about (c .partition) p p n) (answers-about r p (c .partition)) (queue m (c .partition) p) ∙ ap (keep (isAnswerTo r)) b) ∙ e)
+      (keep-sub (isAnswerTo r) (about (c .partition) p p n) (answers-about r p (c .partition)) (queue m (c .partition) p) ∙ ap
+      (keep (isAnswerTo r)) b) ∙ e)
 
-  sent-out : (k : Kind) {E : List Entry} {B : ℕ → List Backpointer} → View m p n E (recordAt c n k Sent ∷ []) B (letters c n p (out k)) → hasOneMessage m p (recordAt c n k Sent) ≡ true
+  sent-out : (k : Kind) {E : List Entry} {B : ℕ → List Backpointer} → View m p n E (recordAt c n k Sent ∷ []) B (letters c n p (out k))
+      → hasOneMessage m p (recordAt c n k Sent) ≡ true
   sent-out k v =
       let u : length (keep (isRequestOf (recordAt c n k Sent)) (letters c n p (out k) p (c .partition))) ≡ 1 =
-      rw (eqb-same p, eqb-same (c .partition)) (count-one (isRequestOf (recordAt c n k Sent)) (messageAt c n k Request) (of-same c n k Sent Request)) in
+      rw (eqb-same p, eqb-same (c .partition))
+      (count-one (isRequestOf (recordAt c n k Sent)) (messageAt c n k Request) (of-same c n k Sent Request)) in
       let w : length (keep (isAnswerTo (recordAt c n k Sent)) (letters c n p (out k) (c .partition) p)) ≡ 0 =
       count-none (isAnswerTo (recordAt c n k Sent)) (eqb (c .partition) p && eqb p (c .partition)) (messageAt c n k Request) refl in
       two k (out k) (v .messages p (c .partition) (four (c .partition) (f .partition))) (v .messages (c .partition) p (four p h)) (omega arith)
 
-  sent-home : (k : Kind) (t : Body) → isRequest t ≡ false → {E : List Entry} {B : ℕ → List Backpointer} → View m p n E (recordAt c n k Sent ∷ []) B (letters c n p (home k t)) → hasOneMessage m p (recordAt c n k Sent) ≡ true
+  sent-home : (k : Kind) (t : Body) → isRequest t ≡ false → {E : List Entry} {B : ℕ → List Backpointer}
+      → View m p n E (recordAt c n k Sent ∷ []) B (letters c n p (home k t)) → hasOneMessage m p (recordAt c n k Sent) ≡ true
   sent-home k t nr v =
       let u : length (keep (isRequestOf (recordAt c n k Sent)) (letters c n p (home k t) p (c .partition))) ≡ 0 =
       count-none (isRequestOf (recordAt c n k Sent)) (eqb p (c .partition) && eqb (c .partition) p) (messageAt c n k t) (rw nr refl) in
@@ -93,26 +100,33 @@ module _ (m : Model) (p n : ℕ) (c : Content) (s : Shape m) (h : p < length (m 
 
 -- each record, by its number's way
 module _ (m : Model) (p n : ℕ) (c : Content) (s : Shape m) (h : p < length (m .partitions)) where
-  record-once : (w : Way) → Sound m c w → {E : List Entry} {B : ℕ → List Backpointer} → View m p n E (recsOf c n w) B (letters c n p (mailOf w)) → (r : Record) → List·Memᴰ r (recsOf c n w) → hasOneMessage m p r ≡ true
+  record-once : (w : Way) → Sound m c w → {E : List Entry} {B : ℕ → List Backpointer} → View m p n E (recsOf c n w) B (letters c n p (mailOf w))
+      → (r : Record) → List·Memᴰ r (recsOf c n w) → hasOneMessage m p r ≡ true
   record-once idle o v r i = absurd (List·Memᴰ·not-nil i)
   record-once (rests k t) o v r i = subst (λ (y : Record). hasOneMessage m p y ≡ true) (sym (List·Memᴰ·eq-of-singleton i)) (rw (o .2) refl)
   record-once (asking k) o v r i = subst (λ (y : Record). hasOneMessage m p y ≡ true) (sym (List·Memᴰ·eq-of-singleton i)) (sent-out m p n c s h o k v)
-  record-once (told k t) o v r i = subst (λ (y : Record). hasOneMessage m p y ≡ true) (sym (List·Memᴰ·eq-of-singleton i)) (sent-home m p n c s h (o .0) k t (o .2) v)
+  record-once (told k t) o v r i = subst (λ (y : Record). hasOneMessage m p y ≡ true) (sym (List·Memᴰ·eq-of-singleton i))
+      (sent-home m p n c s h (o .0) k t (o .2) v)
 
 ok-sent : (k : Kind) → stageFits k Sent ≡ true
 ok-sent k = refl
 
-record-why : (m : Model) (c : Content) (n : ℕ) (r : Record) (w : Way) → Sound m c w → List·Memᴰ r (recsOf c n w) → Fine m (ofRecord r) × (stageFits (r .kind) (r .stage) ≡ true)
+record-why : (m : Model) (c : Content) (n : ℕ) (r : Record) (w : Way) → Sound m c w → List·Memᴰ r (recsOf c n w)
+    → Fine m (ofRecord r) × (stageFits (r .kind) (r .stage) ≡ true)
 record-why m c n r idle o i = absurd (List·Memᴰ·not-nil i)
-record-why m c n r (rests k s) o i = subst (λ (y : Record). Fine m (ofRecord y) × (stageFits (y .kind) (y .stage) ≡ true)) (sym (List·Memᴰ·eq-of-singleton i)) (o .0, o .1)
-record-why m c n r (asking k) o i = subst (λ (y : Record). Fine m (ofRecord y) × (stageFits (y .kind) (y .stage) ≡ true)) (sym (List·Memᴰ·eq-of-singleton i)) (o, refl)
-record-why m c n r (told k t) o i = subst (λ (y : Record). Fine m (ofRecord y) × (stageFits (y .kind) (y .stage) ≡ true)) (sym (List·Memᴰ·eq-of-singleton i)) (o .0, refl)
+record-why m c n r (rests k s) o i = subst (λ (y : Record). Fine m (ofRecord y) × (stageFits (y .kind) (y .stage) ≡ true))
+    (sym (List·Memᴰ·eq-of-singleton i)) (o .0, o .1)
+record-why m c n r (asking k) o i = subst (λ (y : Record). Fine m (ofRecord y) × (stageFits (y .kind) (y .stage) ≡ true))
+    (sym (List·Memᴰ·eq-of-singleton i)) (o, refl)
+record-why m c n r (told k t) o i = subst (λ (y : Record). Fine m (ofRecord y) × (stageFits (y .kind) (y .stage) ≡ true))
+    (sym (List·Memᴰ·eq-of-singleton i)) (o .0, refl)
 
 -- a message is of a sent record
 sent-any : (c : Content) (n : ℕ) (k : Kind) (t : Body) (l : List Record) → keep (recordBears n) l ≡ recordAt c n k Sent ∷ []
     → any (sentAs (messageAt c n k t) (c .partition)) l ≡ true
 sent-any c n k t l r =
-    any-true _ l (recordAt c n k Sent) (seen-mem (recordBears n) l [] (recordAt c n k Sent) r) (every-of _ (refl also eqb-same (c .partition) also of-same c n k Sent t also done))
+    any-true _ l (recordAt c n k Sent) (seen-mem (recordBears n) l [] (recordAt c n k Sent) r)
+    (every-of _ (refl also eqb-same (c .partition) also of-same c n k Sent t also done))
 
 answer-holder : (t : Body) (a b : ℕ) → isRequest t ≡ false → (giver t a b ≡ b) × (holder t a b ≡ a)
 answer-holder Request a b e = no-true refl e
@@ -121,7 +135,8 @@ answer-holder No a b e = (refl, refl)
 answer-holder (NoBecause x) a b e = (refl, refl)
 
 module _ (m : Model) (p n : ℕ) (c : Content) (a b : ℕ) where
-  letter-in : (w : Way) → Sound m c w → keep (recordBears n) (partition m p .records) ≡ recsOf c n w → (y : Message) → List·Memᴰ y (letters c n p (mailOf w) a b) → hasRecord m a b y ≡ true
+  letter-in : (w : Way) → Sound m c w → keep (recordBears n) (partition m p .records) ≡ recsOf c n w → (y : Message)
+      → List·Memᴰ y (letters c n p (mailOf w) a b) → hasRecord m a b y ≡ true
   letter-in idle o v y i = absurd (List·Memᴰ·not-nil i)
   letter-in (rests k s) o v y i = absurd (List·Memᴰ·not-nil i)
   letter-in (asking k) o v y i =
@@ -134,7 +149,8 @@ module _ (m : Model) (p n : ℕ) (c : Content) (a b : ℕ) where
       let ea : a ≡ c .partition = eqb-true a (c .partition) (and-left _ _ (z .0)) in
       let eb : b ≡ p = eqb-true b p (and-right (eqb a (c .partition)) _ (z .0)) in
       let u = answer-holder t a b (o .2) in
-      subst (λ (y′ : Message). hasRecord m a b y′ ≡ true) (sym (z .1)) (both-true (o .1) (rw (u .0, u .1, ea, eb) (sent-any c n k t (partition m p .records) v)))
+      subst (λ (y′ : Message). hasRecord m a b y′ ≡ true) (sym (z .1))
+      (both-true (o .1) (rw (u .0, u .1, ea, eb) (sent-any c n k t (partition m p .records) v)))
 
 -- no more messages of a number than records
 pub mail-le : (c : Content) (n p a b : ℕ) (w : Way) → length (letters c n p (mailOf w) a b) ≤ length (recsOf c n w)
@@ -183,7 +199,8 @@ module _ (m : Model) (w : Whole m) where
   given-within : (p n : ℕ) → givenBy (partition m p) n ≡ true → isPartition m p ≡ true
   unfolding givenBy
   given-within p n h = byTest (isPartition m p) (λ t. t)
-      (λ t. let a = no-last m p (ltb-false _ _ t) in let b = leb-true 1 n (and-left _ _ h) in let c = leb-true n (partition m p .last) (and-right (leb 1 n) _ h) in absurd (omega arith))
+      (λ t. let a = no-last m p (ltb-false _ _ t) in let b = leb-true 1 n (and-left _ _ h) in let c = leb-true n (partition m p .last)
+      (and-right (leb 1 n) _ h) in absurd (omega arith))
 
   module _ (p : ℕ) where
     entry-here : (e : Entry) → List·Memᴰ e (partition m p .entries) → List·Memᴰ e (keep (entryBears (e .number)) (partition m p .entries))
@@ -192,8 +209,10 @@ module _ (m : Model) (w : Whole m) where
     record-here : (r : Record) → List·Memᴰ r (partition m p .records) → List·Memᴰ r (keep (recordBears (r .number)) (partition m p .records))
     record-here r i = mem-keep (recordBears (r .number)) (partition m p .records) r i (eqb-same (r .number))
 
-    back-here : (b : Backpointer) → List·Memᴰ b (partition m p .backpointers) → List·Memᴰ b (keep (backpointerBears (b .parent) (b .number)) (partition m p .backpointers))
-    back-here b i = mem-keep (backpointerBears (b .parent) (b .number)) (partition m p .backpointers) b i (both-true (eqb-same (b .parent)) (eqb-same (b .number)))
+    back-here : (b : Backpointer) → List·Memᴰ b (partition m p .backpointers)
+        → List·Memᴰ b (keep (backpointerBears (b .parent) (b .number)) (partition m p .backpointers))
+    back-here b i = mem-keep (backpointerBears (b .parent) (b .number)) (partition m p .backpointers) b i
+        (both-true (eqb-same (b .parent)) (eqb-same (b .number)))
 
     entry-fine : (e : Entry) → List·Memᴰ e (partition m p .entries) → Fine m (ofEntry e)
     entry-fine e i = let y : Fit m p (e .number) = w .local p (e .number) in y .entriesFine e (rw (y .has .entries) at (entry-here e i))

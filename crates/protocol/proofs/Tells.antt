@@ -69,10 +69,12 @@ sent-is r n e t =
     stage Cleared e = no-true e refl
 
 rest-is : (r : Record) (n : ℕ) → r .number ≡ n → r ≡ recordAt (ofRecord r) n (r .kind) (r .stage)
-rest-is r n e = λ i. record { kind = r .kind; directory = r .directory; name = r .name; partition = r .partition; object = r .object; number = e i; stage = r .stage }
+rest-is r n e = λ i.
+    record { kind = r .kind; directory = r .directory; name = r .name; partition = r .partition; object = r .object; number = e i; stage = r .stage }
 
 -- a message's way: a request from its giver, an answer to it
-sides : (t : Body) (a b p q : ℕ) → giver t a b ≡ p → q ≡ holder t a b → ((isRequest t ≡ true) × (a ≡ p) × (b ≡ q)) ⊎ ((isRequest t ≡ false) × (a ≡ q) × (b ≡ p))
+sides : (t : Body) (a b p q : ℕ) → giver t a b ≡ p → q ≡ holder t a b
+    → ((isRequest t ≡ true) × (a ≡ p) × (b ≡ q)) ⊎ ((isRequest t ≡ false) × (a ≡ q) × (b ≡ p))
 sides Request a b p q e f = inl (refl, e, sym f)
 sides Yes a b p q e f = inr (refl, sym f, e)
 sides No a b p q e f = inr (refl, sym f, e)
@@ -154,7 +156,8 @@ module _ (m : Model) (o : inOrder m ≡ true) where
   -- in a partition that is not there, nothing is
   module _ (p : ℕ) where
     in-part : {A : Type 0} (g : Partition → List A) → g noPartition ≡ [] → (x : A) → List·Memᴰ x (g (partition m p)) → p < length (m .partitions)
-    in-part g e x i = byTest (isPartition m p) (λ t. ltb-true _ _ t) (λ t. absurd (List·Memᴰ·not-nil (rw e at (rw (absent m p (ltb-false _ _ t)) at i))))
+    in-part g e x i = byTest (isPartition m p) (λ t. ltb-true _ _ t)
+        (λ t. absurd (List·Memᴰ·not-nil (rw e at (rw (absent m p (ltb-false _ _ t)) at i))))
 
     entry-in : (e : Entry) → List·Memᴰ e (partition m p .entries) → p < length (m .partitions)
     unfolding noPartition
@@ -181,7 +184,8 @@ module _ (m : Model) (o : inOrder m ≡ true) where
     back-fine : (b : Backpointer) → List·Memᴰ b (partition m p .backpointers) → Fine m (ofBackpointer p b)
     unfolding partitionInRange inRange
     back-fine b i =
-        let h : backpointerInRange m b ≡ true = all-get (backpointerInRange m) (partition m p .backpointers) (every-at _ (in-range p (back-in b i)) 5) b i in
+        let h : backpointerInRange m b ≡ true = all-get (backpointerInRange m) (partition m p .backpointers)
+        (every-at _ (in-range p (back-in b i)) 5) b i in
         let r : inRange m (b .directory) (b .parent) (b .object) ≡ true = and-left _ _ h in
         record {
           partition = back-in b i;
@@ -222,20 +226,23 @@ module _ (m : Model) (o : inOrder m ≡ true) where
     few-names d s =
         counts (λ (x : Partition). length (keep (standsUnder d s) (x .entries)) ≤ 1)
         (λ h. apart-few entriesClash (standsUnder d s)
-        (λ x y t u. let a = stands-true d s x t in or-left (standsUnder (x .directory) (x .name) y) _ (rw (a .0, a .1) u)) (partition m p .entries) (entries-apart p h)) (lit≤ tt)
+        (λ x y t u. let a = stands-true d s x t in or-left (standsUnder (x .directory) (x .name) y) _ (rw (a .0, a .1) u)) (partition m p .entries)
+        (entries-apart p h)) (lit≤ tt)
 
     few-entries : (n : ℕ) → length (keep (entryBears n) (partition m p .entries)) ≤ 1
     unfolding noPartition keep
     few-entries n =
         counts (λ (x : Partition). length (keep (entryBears n) (x .entries)) ≤ 1)
         (λ h. apart-few entriesClash (entryBears n)
-        (λ x y t u. or-else (standsUnder (x .directory) (x .name) y) (λ v. rw (eqb-true (x .number) n t) u)) (partition m p .entries) (entries-apart p h)) (lit≤ tt)
+        (λ x y t u. or-else (standsUnder (x .directory) (x .name) y) (λ v. rw (eqb-true (x .number) n t) u)) (partition m p .entries)
+        (entries-apart p h)) (lit≤ tt)
 
     few-records : (n : ℕ) → length (keep (recordBears n) (partition m p .records)) ≤ 1
     unfolding noPartition keep
     few-records n =
         counts (λ (x : Partition). length (keep (recordBears n) (x .records)) ≤ 1)
-        (λ h. apart-few recordsClash (recordBears n) (λ x y t u. rw (eqb-true (x .number) n t) u) (partition m p .records) (records-apart p h)) (lit≤ tt)
+        (λ h. apart-few recordsClash (recordBears n) (λ x y t u. rw (eqb-true (x .number) n t) u) (partition m p .records) (records-apart p h))
+        (lit≤ tt)
 
     few-keys : (ob a d : ℕ) (s : Name) → length (keep (inPlace ob a d s) (partition m p .backpointers)) ≤ 1
     unfolding noPartition keep
@@ -294,7 +301,8 @@ module _ (m : Model) (o : inOrder m ≡ true) where
       let w : Rattle.protocol.specs.Order.matches (z .0) x ≡ true = every-at _ u 2 in
       record {
         is = z .0;
-        here = mem-keep (recordBears n) (partition m p .records) (z .0) (subst (λ (g : ℕ). List·Memᴰ (z .0) (partition m g .records)) ep j) (eq-eqb (z .0 .number) n (sym (eqb-true _ _ (every-at _ w 0)) ∙ en));
+        here = mem-keep (recordBears n) (partition m p .records) (z .0) (subst (λ (g : ℕ). List·Memᴰ (z .0) (partition m g .records)) ep j)
+            (eq-eqb (z .0 .number) n (sym (eqb-true _ _ (every-at _ w 0)) ∙ en));
         giver = ep;
         holder = eqb-true _ _ (every-at _ u 1);
         sent = every-at _ u 0;
@@ -310,10 +318,12 @@ module _ (m : Model) (o : inOrder m ≡ true) where
     bear-fine q b i = back-fine q b (keep-mem (backpointerBears p n) (partition m q .backpointers) b i)
 
     -- messages of n stand nowhere
-    no-mail : ((r : Record) → List·Memᴰ r (keep (recordBears n) (partition m p .records)) → isSent (r .stage) ≡ true → ⊥) → (a b : ℕ) → b < 4 → keep (about a b p n) (queue m a b) ≡ []
+    no-mail : ((r : Record) → List·Memᴰ r (keep (recordBears n) (partition m p .records)) → isSent (r .stage) ≡ true → ⊥) → (a b : ℕ) → b < 4
+        → keep (about a b p n) (queue m a b) ≡ []
     no-mail h a b hb =
         byTest (ltb a 4)
-        (λ t. keep-nil (about a b p n) (queue m a b) (λ x i u. let s : Sender p n a b x = sender p n a b (ltb-true _ _ t) hb x i u in h (s .is) (s .here) (s .sent)))
+        (λ t. keep-nil (about a b p n) (queue m a b)
+        (λ x i u. let s : Sender p n a b x = sender p n a b (ltb-true _ _ t) hb x i u in h (s .is) (s .here) (s .sent)))
         (λ t. rw (far a b (ltb-false _ _ t)) (unfold keep in refl))
 
     -- or only at one place
@@ -326,7 +336,8 @@ module _ (m : Model) (o : inOrder m ≡ true) where
           (λ t. rw (t, eqb-true a u (and-left _ _ t), eqb-true b v (and-right (eqb a u) _ t))
           (keep-same (about u v p n) g (queue m u v) (λ x i. bool-same (about u v p n x) (g x) (λ e. to u v hu hv x i e .2) (from x)) ∙ l))
           (λ t. rw t (byTest (ltb a 4)
-          (λ ta. keep-nil (about a b p n) (queue m a b) (λ x i e. let z = to a b (ltb-true _ _ ta) hb x i e in no-true (both-true (eq-eqb a u (z .0)) (eq-eqb b v (z .1))) t))
+          (λ ta. keep-nil (about a b p n) (queue m a b)
+          (λ x i e. let z = to a b (ltb-true _ _ ta) hb x i e in no-true (both-true (eq-eqb a u (z .0)) (eq-eqb b v (z .1))) t))
           (λ ta. rw (far a b (ltb-false _ _ ta)) (unfold keep in refl))))
 
     fit : (c : Content) (w : Way) → Sound m c w → keep (recordBears n) (partition m p .records) ≡ recsOf c n w
@@ -359,7 +370,8 @@ module _ (m : Model) (o : inOrder m ≡ true) where
       is-r r′ i = List·Memᴰ·eq-of-singleton (rw e at i)
 
       resting : isSent (r .stage) ≡ false → Fit m p n
-      resting t = fit (ofRecord r) (rests (r .kind) (r .stage)) (fine, record-stage p r here, t) (e ∙ ap (λ (z : Record). z ∷ []) (rest-is r n number))
+      resting t = fit (ofRecord r) (rests (r .kind) (r .stage)) (fine, record-stage p r here, t)
+          (e ∙ ap (λ (z : Record). z ∷ []) (rest-is r n number))
           (no-mail (λ r′ i u. no-true (ap (λ (z : Record). isSent (z .stage)) (sym (is-r r′ i)) ∙ u) t))
 
       abbrev q : ℕ
@@ -391,9 +403,11 @@ module _ (m : Model) (o : inOrder m ≡ true) where
 
         out-way : (x : Message) → keep (isRequestOf r) (queue m p q) ≡ x ∷ [] → keep (isAnswerTo r) (queue m q p) ≡ [] → Fit m p n
         out-way x ea eb = fit (ofRecord r) (asking (r .kind)) fine records
-            (λ a b hb. only-at (isRequestOf r) p q p4 q4 x to (λ y u. rw number at (asks-about r p q y u)) ea a b hb ∙ ap (one (eqb a p && eqb b q)) is)
+            (λ a b hb. only-at (isRequestOf r) p q p4 q4 x to (λ y u. rw number at (asks-about r p q y u)) ea a b hb ∙ ap
+            (one (eqb a p && eqb b q)) is)
           where
-            to : (a b : ℕ) → a < 4 → b < 4 → (y : Message) → List·Memᴰ y (queue m a b) → about a b p n y ≡ true → (a ≡ p) × (b ≡ q) × (isRequestOf r y ≡ true)
+            to : (a b : ℕ) → a < 4 → b < 4 → (y : Message) → List·Memᴰ y (queue m a b) → about a b p n y ≡ true
+                → (a ≡ p) × (b ≡ q) × (isRequestOf r y ≡ true)
             to a b ha hb y i u = elim (sorted a b ha hb y i u) [
               | inl z ↦ (z .1, z .2, z .0)
               | inr z ↦ absurd (List·Memᴰ·not-nil (rw eb at (mem-keep (isAnswerTo r) (queue m q p) y (rw (z .1, z .2) at i) (z .0))))
@@ -403,13 +417,16 @@ module _ (m : Model) (o : inOrder m ≡ true) where
             a-true = kept (isRequestOf r) (queue m p q) x [] ea
 
             is : x ≡ messageAt (ofRecord r) n (r .kind) Request
-            is = of-is r x (and-right (isRequest (x .body)) _ a-true) ∙ ap₂ (λ (k : ℕ) (g : Body). messageAt (ofRecord r) k (r .kind) g) number (request-is (x .body) (and-left _ _ a-true))
+            is = of-is r x (and-right (isRequest (x .body)) _ a-true) ∙ ap₂ (λ (k : ℕ) (g : Body). messageAt (ofRecord r) k (r .kind) g) number
+                (request-is (x .body) (and-left _ _ a-true))
 
         home-way : (x : Message) → keep (isRequestOf r) (queue m p q) ≡ [] → keep (isAnswerTo r) (queue m q p) ≡ x ∷ [] → Fit m p n
         home-way x ea eb = fit (ofRecord r) (told (r .kind) (x .body)) (fine, tag-ok, not-request) records
-            (λ a b hb. only-at (isAnswerTo r) q p q4 p4 x to (λ y u. rw number at (answers-about r p q y u)) eb a b hb ∙ ap (one (eqb a q && eqb b p)) is)
+            (λ a b hb. only-at (isAnswerTo r) q p q4 p4 x to (λ y u. rw number at (answers-about r p q y u)) eb a b hb ∙ ap
+            (one (eqb a q && eqb b p)) is)
           where
-            to : (a b : ℕ) → a < 4 → b < 4 → (y : Message) → List·Memᴰ y (queue m a b) → about a b p n y ≡ true → (a ≡ q) × (b ≡ p) × (isAnswerTo r y ≡ true)
+            to : (a b : ℕ) → a < 4 → b < 4 → (y : Message) → List·Memᴰ y (queue m a b) → about a b p n y ≡ true
+                → (a ≡ q) × (b ≡ p) × (isAnswerTo r y ≡ true)
             to a b ha hb y i u = elim (sorted a b ha hb y i u) [
               | inl z ↦ absurd (List·Memᴰ·not-nil (rw ea at (mem-keep (isRequestOf r) (queue m p q) y (rw (z .1, z .2) at i) (z .0))))
               | inr z ↦ (z .1, z .2, z .0)
@@ -425,12 +442,15 @@ module _ (m : Model) (o : inOrder m ≡ true) where
             is = of-is r x (and-right (not (isRequest (x .body))) _ a-true) ∙ ap (λ (k : ℕ). messageAt (ofRecord r) k (r .kind) (x .body)) number
 
             tag-ok : bodyFits (r .kind) (x .body) ≡ true
-            tag-ok = ap (λ (z : Message). bodyFits (z .kind) (x .body)) (sym is) ∙ and-left _ _ (letter q p q4 p4 x (seen-mem (isAnswerTo r) (queue m q p) [] x eb))
+            tag-ok = ap (λ (z : Message). bodyFits (z .kind) (x .body)) (sym is) ∙ and-left _ _
+                (letter q p q4 p4 x (seen-mem (isAnswerTo r) (queue m q p) [] x eb))
 
         underway : Fit m p n
-        underway = go (keep (isRequestOf r) (queue m p q)) (keep (isAnswerTo r) (queue m q p)) refl refl (eqb-true _ 1 (or-right (not (isSent (r .stage))) (once-fact p r here) (ap not t)))
+        underway = go (keep (isRequestOf r) (queue m p q)) (keep (isAnswerTo r) (queue m q p)) refl refl
+            (eqb-true _ 1 (or-right (not (isSent (r .stage))) (once-fact p r here) (ap not t)))
           where
-            go : (A B : List Message) → keep (isRequestOf r) (queue m p q) ≡ A → keep (isAnswerTo r) (queue m q p) ≡ B → length (keep (isRequestOf r) (queue m p q)) + length (keep (isAnswerTo r) (queue m q p)) ≡ 1 → Fit m p n
+            go : (A B : List Message) → keep (isRequestOf r) (queue m p q) ≡ A → keep (isAnswerTo r) (queue m q p) ≡ B
+                → length (keep (isRequestOf r) (queue m p q)) + length (keep (isAnswerTo r) (queue m q p)) ≡ 1 → Fit m p n
             go [] [] ea eb h = absurd (let a = ap length ea in let b = ap length eb in omega arith)
             go (x ∷ []) [] ea eb h = out-way x ea eb
             go (x ∷ y ∷ A) B ea eb h = absurd (let a = ap length ea in omega arith)
@@ -452,12 +472,15 @@ module _ (m : Model) (o : inOrder m ≡ true) where
     -- a number not given has nothing
     blank : givenBy (partition m p) n ≡ false → Blank m p n
     blank h =
-        let rs : keep (recordBears n) (partition m p .records) ≡ [] = keep-nil (recordBears n) (partition m p .records) (λ r i t. no-true (ap (givenBy (partition m p)) (sym (eqb-true _ _ t)) ∙ record-given p r i) h) in
+        let rs : keep (recordBears n) (partition m p .records) ≡ [] = keep-nil (recordBears n) (partition m p .records)
+        (λ r i t. no-true (ap (givenBy (partition m p)) (sym (eqb-true _ _ t)) ∙ record-given p r i) h) in
         record {
-          entries = keep-nil (entryBears n) (partition m p .entries) (λ e i t. no-true (ap (givenBy (partition m p)) (sym (eqb-true _ _ t)) ∙ entry-given p e i) h);
+          entries = keep-nil (entryBears n) (partition m p .entries)
+              (λ e i t. no-true (ap (givenBy (partition m p)) (sym (eqb-true _ _ t)) ∙ entry-given p e i) h);
           records = rs;
           backpointers = λ q. keep-nil (backpointerBears p n) (partition m q .backpointers) (λ b i t.
-              no-true (ap₂ (λ (x : ℕ) (y : ℕ). givenBy (partition m x) y) (sym (eqb-true _ _ (and-left _ _ t))) (sym (eqb-true _ _ (and-right (eqb (b .parent) p) _ t))) ∙ back-given q b i) h);
+              no-true (ap₂ (λ (x : ℕ) (y : ℕ). givenBy (partition m x) y) (sym (eqb-true _ _ (and-left _ _ t)))
+              (sym (eqb-true _ _ (and-right (eqb (b .parent) p) _ t))) ∙ back-given q b i) h);
           messages = no-mail (λ r i u. List·Memᴰ·not-nil (rw rs at i));
         }
 

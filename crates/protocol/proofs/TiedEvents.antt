@@ -29,7 +29,16 @@ use Rattle.protocol.proofs.Whole.{Way, asking, idle, recsOf, rests, tol
 plain-ties : (m : Model) (p : ℕ) (x : Partition) → Plain x (partition m p) → p < length (m .partitions) → Ties m → Ties (setPartition m p x)
 plain-ties m p x e h i p′ n =
     let y : Tie m p′ n = i p′ n in
-    record { what = y .what; way = y .way; entry = y .entry; back = y .back; fine = fine-else (count-part m p x) (y .fine); rule = y .rule; has = plain-view m p x e h (y .has) }
+    record {
+      what = y .what;
+      way = y .way;
+      entry = y .entry;
+      back = y .back;
+      fine = fine-else (count-part m p x) (y .fine);
+      rule = y .rule;
+      has =
+          plain-view m p x e h (y .has);
+    }
 
 given-ties : (m : Model) (p : ℕ) → p < length (m .partitions) → Ties m → Ties (giveNumber m p)
 unfolding giveNumber
@@ -40,7 +49,8 @@ rule-ready Link = refl
 rule-ready Create = refl
 rule-ready Unlink = refl
 
-pub ask-ties : (k : Kind) (m : Model) (p d : ℕ) (t : Name) (q o : ℕ) → Shape m → Blank m p (suc (partition m p .last)) → Ties m → Ties (ask k m p d t q o .model)
+pub ask-ties : (k : Kind) (m : Model) (p d : ℕ) (t : Name) (q o : ℕ) → Shape m → Blank m p (suc (partition m p .last)) → Ties m
+    → Ties (ask k m p d t q o .model)
 ask-ties k m p d t q o s bl g =
     ask-cases k m p d t q o Ties g λ y.
     let f = y .others s in
@@ -59,7 +69,8 @@ ask-ties k m p d t q o s bl g =
     })
 
 -- an entry without a record: the number rests
-settled : (m : Model) (p n : ℕ) (e : Entry) (c : Content) (w : Way) (t st : Bool) → rule w t st ≡ true → Has m p n c w t st → one t (entryAt c n) ≡ e ∷ [] → recsOf c n w ≡ []
+settled : (m : Model) (p n : ℕ) (e : Entry) (c : Content) (w : Way) (t st : Bool) → rule w t st ≡ true → Has m p n c w t st
+    → one t (entryAt c n) ≡ e ∷ [] → recsOf c n w ≡ []
     → (e ≡ entryAt c n) × (st ≡ true) × View m p n (entryAt c n ∷ []) [] (backsOf c n p st) (λ a b. [])
 settled m p n e c idle true st r v a b = (head-eq-of-cons-eq (sym a), r, v)
 settled m p n e c idle false st r v a b = absurd (nil≢cons a)
@@ -73,10 +84,13 @@ unlink-ties m p d t s g =
     let n : ℕ = e .number in
     let x : Tie m p n = g p n in
     let is : keep (entryBears n) (partition m p .entries) ≡ e ∷ [] =
-    alone (standsUnder d t) (entryBears n) (partition m p .entries) e es (u .found) (eqb-same n) (rw (x .has .entries) (one-le (x .entry) (entryAt (x .what) n))) in
-    let z = settled m p n e (x .what) (x .way) (x .entry) (x .back) (x .rule) (x .has) (sym (x .has .entries) ∙ is) (sym (x .has .records) ∙ u .unopened) in
+    alone (standsUnder d t) (entryBears n) (partition m p .entries) e es (u .found) (eqb-same n)
+    (rw (x .has .entries) (one-le (x .entry) (entryAt (x .what) n))) in
+    let z = settled m p n e (x .what) (x .way) (x .entry) (x .back) (x .rule) (x .has) (sym (x .has .entries) ∙ is)
+    (sym (x .has .records) ∙ u .unopened) in
     let o : Else m (openRecord m p (unlinkOf e)) p n = u .others s in
-    let v : View (openRecord m p (unlinkOf e)) p n (entryAt (x .what) n ∷ []) (unlinkOf e ∷ []) (backsOf (x .what) n p (x .back)) (λ a b. []) = grown-view m p s (u .up) (unlinkOf e) (z .2) in
+    let v : View (openRecord m p (unlinkOf e)) p n (entryAt (x .what) n ∷ []) (unlinkOf e ∷ []) (backsOf (x .what) n p (x .back)) (λ a b. []) =
+    grown-view m p s (u .up) (unlinkOf e) (z .2) in
     change-ties g
     (record {
       others = o;
@@ -87,7 +101,13 @@ unlink-ties m p d t s g =
         back = x .back;
         fine = fine-else (o .count) (x .fine);
         rule = z .1;
-        has = record { entries = v .entries; records = v .records ∙ ap (λ (y : Entry). unlinkOf y ∷ []) (z .0); backpointers = v .backpointers; messages = v .messages };
+        has = record {
+          entries = v .entries;
+          records = v .records ∙ ap (λ (y : Entry). unlinkOf y ∷ []) (z .0);
+          backpointers =
+              v .backpointers;
+          messages = v .messages;
+        };
       };
     })
 
@@ -109,7 +129,8 @@ ready-ties (told k t) e st r = ready-any k e st (λ u. entry-back (told k t) st 
 lose-ties : (f : ℕ → Record → Bool) (g : ℕ → ℕ → Bool) → Evenly f g → (m : Model) → Ties m → Ties (lose f g m)
 lose-ties f g v m i p n =
     let y : Tie m p n = i p n in
-    lost-at f g v m p n (y .what) (one (y .entry) (entryAt (y .what) n)) (backsOf (y .what) n p (y .back)) (Tie (lose f g m) p n) (λ w. rule w (y .entry) (y .back) ≡ true)
+    lost-at f g v m p n (y .what) (one (y .entry) (entryAt (y .what) n)) (backsOf (y .what) n p (y .back)) (Tie (lose f g m) p n)
+    (λ w. rule w (y .entry) (y .back) ≡ true)
     (λ w r. ready-ties w (y .entry) (y .back) r)
     (λ w r u. record { what = y .what; way = w; entry = y .entry; back = y .back; fine = fine-else (count-lose f g m) (y .fine); rule = r; has = u })
     (y .way) (y .rule) (y .has)
@@ -121,7 +142,8 @@ up-ties m p u h i = plain-ties m p (withUp u (partition m p)) (record { entries 
 pub cut-ties : (m : Model) (a b : ℕ) → Ties m → Ties (cut m a b .model)
 unfolding cut
 cut-ties m a b i =
-    check-keeps Ties _ _ m _ i λ e₁. check-keeps Ties _ _ m _ i λ e₂. check-keeps Ties _ _ m _ i λ e₃. lose-ties (sentBetween a b) (between a b) (cut-evenly a b) m i
+    check-keeps Ties _ _ m _ i λ e₁. check-keeps Ties _ _ m _ i λ e₂. check-keeps Ties _ _ m _ i λ e₃. lose-ties (sentBetween a b) (between a b)
+    (cut-evenly a b) m i
 
 pub crash-ties : (m : Model) (p : ℕ) → Ties m → Ties (crash m p .model)
 unfolding crash
@@ -142,4 +164,13 @@ some-ok = refl
 
 pub fresh-ties : (k : ℕ) → 1 ≤ k → Ties (fresh k)
 fresh-ties k h p n =
-    record { what = record { directory = 0; name = someName; partition = 0; object = 0 }; way = idle; entry = false; back = false; fine = record { partition = fresh-one k h; directory = lit< tt; object = lit< tt; name = some-ok }; rule = refl; has = fresh-blank k p n }
+    record {
+      what = record { directory = 0; name = someName; partition = 0; object = 0 };
+      way = idle;
+      entry = false;
+      back = false;
+      fine =
+          record { partition = fresh-one k h; directory = lit< tt; object = lit< tt; name = some-ok };
+      rule = refl;
+      has = fresh-blank k p n;
+    }

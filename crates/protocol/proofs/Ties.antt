@@ -85,7 +85,17 @@ pub record Tied (m m′ : Model) (p n : ℕ) : Type 0 where
 
 tie-at : {m m′ : Model} {p n : ℕ} → Else m m′ p n → Tie m′ p n → (p′ n′ : ℕ) → Tie m p′ n′ → (b : Bool) → here p n p′ n′ ≡ b → Tie m′ p′ n′
 tie-at {p} {n} o x p′ n′ y true e = rw (eqb-true n′ n (and-right (eqb p′ p) _ e), eqb-true p′ p (and-left _ _ e)) x
-tie-at o x p′ n′ y false e = record { what = y .what; way = y .way; entry = y .entry; back = y .back; fine = fine-else (o .count) (y .fine); rule = y .rule; has = else-view o e (y .has) }
+tie-at o x p′ n′ y false e =
+    record {
+      what = y .what;
+      way = y .way;
+      entry = y .entry;
+      back = y .back;
+      fine = fine-else (o .count) (y .fine);
+      rule = y .rule;
+      has =
+          else-view o e (y .has);
+    }
 
 -- one number changes
 pub change-ties : {m m′ : Model} {p n : ℕ} → Ties m → Tied m m′ p n → Ties m′
@@ -124,7 +134,8 @@ entry-back (told Unlink No) st r = no-true r refl
 entry-back (told Unlink (NoBecause x)) st r = no-true r refl
 
 -- a back-pointer has its entry, or a record
-pub back-why : (c : Content) (n : ℕ) (w : Way) (e : Bool) → rule w e true ≡ true → (e ≡ true) ⊎ ((r : Record) × (recsOf c n w ≡ r ∷ []) × (entryOf r ≡ entryAt c n))
+pub back-why : (c : Content) (n : ℕ) (w : Way) (e : Bool) → rule w e true ≡ true
+    → (e ≡ true) ⊎ ((r : Record) × (recsOf c n w ≡ r ∷ []) × (entryOf r ≡ entryAt c n))
 back-why c n idle true r = inl refl
 back-why c n idle false r = no-true r refl
 back-why c n (rests k s) e r = inr (_, refl, refl)

@@ -14,8 +14,10 @@ use Rattle.lists.proofs.Tests.{byTest, no-true}
 -- a request from p that is x, at a partition with the back-pointers bs
 module _ (bs : List Backpointer) (p : ℕ) (x : Message) where
   pub data Judged : Kind → Verdict → Type 0 where
-    placeOwn : {k : Kind} → adds k ≡ true → (y : Backpointer) (ys : List Backpointer) → keep (inItsPlace p x) bs ≡ y ∷ ys → eqb (y .number) (x .number) ≡ true → Judged k (saysOnly Yes)
-    placeOther : {k : Kind} → adds k ≡ true → (y : Backpointer) (ys : List Backpointer) → keep (inItsPlace p x) bs ≡ y ∷ ys → eqb (y .number) (x .number) ≡ false → Judged k (saysOnly (NoBecause PlaceTaken))
+    placeOwn : {k : Kind} → adds k ≡ true → (y : Backpointer) (ys : List Backpointer) → keep (inItsPlace p x) bs ≡ y ∷ ys
+        → eqb (y .number) (x .number) ≡ true → Judged k (saysOnly Yes)
+    placeOther : {k : Kind} → adds k ≡ true → (y : Backpointer) (ys : List Backpointer) → keep (inItsPlace p x) bs ≡ y ∷ ys
+        → eqb (y .number) (x .number) ≡ false → Judged k (saysOnly (NoBecause PlaceTaken))
     refusing : {k : Kind} → adds k ≡ true → keep (inItsPlace p x) bs ≡ [] → (why : Reason) → Judged k (saysOnly (NoBecause why))
     adding : {k : Kind} → adds k ≡ true → keep (inItsPlace p x) bs ≡ [] → length bs < 64 → Judged k addsIt
     missing : {k : Kind} → adds k ≡ false → keep (isExactly p x) bs ≡ [] → Judged k (saysOnly No)

@@ -145,7 +145,8 @@ record Lies (m : Model) (p n w : ℕ) : Type 0 where
   fit : Fit m p n
   is : load fit ≡ w
 
-fit-at : {m m′ : Model} {p n : ℕ} → Else m m′ p n → (x : Fit m′ p n) (p′ n′ : ℕ) (y : Fit m p′ n′) (b : Bool) → here p n p′ n′ ≡ b → Lies m′ p′ n′ (pick b (load x) (load y))
+fit-at : {m m′ : Model} {p n : ℕ} → Else m m′ p n → (x : Fit m′ p n) (p′ n′ : ℕ) (y : Fit m p′ n′) (b : Bool) → here p n p′ n′ ≡ b
+    → Lies m′ p′ n′ (pick b (load x) (load y))
 unfolding fit-else refit
 fit-at {m′} {p} {n} o x p′ n′ y true e = rw (eqb-true n′ n (and-right (eqb p′ p) _ e), eqb-true p′ p (and-left _ _ e)) (record { fit = x; is = refl })
 fit-at o x p′ n′ y false e = record { fit = fit-else (o .count) y (else-view o e (y .has)); is = refl }
@@ -217,7 +218,8 @@ given-zero {m} i p n h t =
     omega (arith, weigh-le (y .what) n (y .entries) (y .way))
 
 pub moved-whole : {m m′ : Model} {p n : ℕ} (i : Whole m) → Moved m m′ p n (load (i .local p n)) → Whole m′
-moved-whole {p} {n} i x = change-whole i (x .others) (x .to) (λ t. given i p n (omega (arith, x .less)) (omega (arith, x .others .lasts p))) (given-zero i p n (omega (arith, x .less)))
+moved-whole {p} {n} i x = change-whole i (x .others) (x .to) (λ t. given i p n (omega (arith, x .less)) (omega (arith, x .others .lasts p)))
+    (given-zero i p n (omega (arith, x .less)))
 
 pub moved-load : {m m′ : Model} {p n : ℕ} (i : Whole m) (x : Moved m m′ p n (load (i .local p n))) (p′ n′ : ℕ)
     → load (moved-whole i x .local p′ n′) ≡ pick (here p n p′ n′) (load (x .to)) (load (i .local p′ n′))

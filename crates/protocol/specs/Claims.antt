@@ -10,7 +10,7 @@ use Rattle.protocol.specs.Answers.{Outcome, accepted, refuse}
 use Rattle.protocol.specs.Ask.{ask, unlink}
 use Rattle.protocol.specs.Bounds.{maxEntries, maxMessages, maxPartitions, maxRecords}
 use Rattle.protocol.specs.Deliver.{isExactly}
-use Rattle.protocol.specs.Demands.{AllAccounted, AllUp, Matched, NamesHold, acceptedIn, isStep, openRecords, stillAdds}
+use Rattle.protocol.specs.Demands.{AllAccounted, AllUp, Matched, NamesHold, acceptedIn, isStep, openRecords, stepsPerRecord, stillAdds}
 use Rattle.protocol.specs.Elements.{Accepted, Answer, Kind, Message, Name, OutOfOrder, Record, Tally, adds, isOne, isOther, isRequest, isSent}
 use Rattle.protocol.specs.Events.{Advancing, Crashing, Creating, Cutting, Delivering, Event, Linking, Opening, Recovering, Unlinking, answers, apply, bare, run}
 use Rattle.protocol.specs.Example.{answered, left, schedule}
@@ -39,9 +39,9 @@ pub record Ends (m : Model) (steps : List Event) : Type 0 where
   -- "some such step is accepted while any record is open"
   pub goesOn : (openRecords (run steps m) ≡ 0 → ⊥) → (e : Event) × (isStep e ≡ true) × (accepted (apply e (run steps m)) ≡ true)
   -- "at most eight accepted steps for each record then open"
-  pub eight : acceptedIn steps m ≤ 8 * openRecords m
+  pub eight : acceptedIn steps m ≤ stepsPerRecord * openRecords m
   -- after which "all logs are empty"
-  pub empties : 8 * openRecords m ≤ acceptedIn steps m → openRecords (run steps m) ≡ 0
+  pub empties : stepsPerRecord * openRecords m ≤ acceptedIn steps m → openRecords (run steps m) ≡ 0
   -- "and names and back-pointers match one for one"
   pub matched : openRecords (run steps m) ≡ 0 → Matched (run steps m)
 
@@ -50,7 +50,7 @@ pub record Settles : Type 0 where
   pub ends : (k : ℕ) → 1 ≤ k → k ≤ maxPartitions → (es : List Event) → AllUp (run es (fresh k))
       → (steps : List Event) → all isStep steps ≡ true → Ends (run es (fresh k)) steps
   -- the bound holds from any tables in order, loaded ones too, whoever is up
-  pub eight : (m : Model) → inOrder m ≡ true → (steps : List Event) → all isStep steps ≡ true → acceptedIn steps m ≤ 8 * openRecords m
+  pub eight : (m : Model) → inOrder m ≡ true → (steps : List Event) → all isStep steps ≡ true → acceptedIn steps m ≤ stepsPerRecord * openRecords m
 
 -- of a settling run from the tables m, with what it gave: it took the steps `stepsBy apply n m`
 pub record Takes (n : ℕ) (m : Model) (z : Settled) : Type 0 where
@@ -62,7 +62,7 @@ pub record Takes (n : ℕ) (m : Model) (z : Settled) : Type 0 where
   pub ones : z .tally .ones ≡ length (keep (λ (a : Answer). isOne (a .reply)) (answers (stepsBy apply n m) m))
   pub others : z .tally .others ≡ length (keep (λ (a : Answer). isOther (a .reply)) (answers (stepsBy apply n m) m))
   pub most : length (stepsBy apply n m) ≤ n
-  pub eight : length (stepsBy apply n m) ≤ 8 * openRecords m
+  pub eight : length (stepsBy apply n m) ≤ stepsPerRecord * openRecords m
   pub stops : (length (stepsBy apply n m) ≡ n) ⊎ ((e : Event) → isStep e ≡ true → accepted (apply e (run (stepsBy apply n m) m)) ≡ false)
 
 -- Claim 4, settle takes and counts exactly the accepted steps.
@@ -71,9 +71,9 @@ pub record Settling : Type 0 where
   pub order : (n : ℕ) (t : Tally) (m : Model) → inOrder m ≡ true → inOrder (settle n t m .model) ≡ true
   -- one test of the order before the run is as good as one before each step
   pub untested : (n : ℕ) (t : Tally) (m : Model) → inOrder m ≡ true → settle n t m ≡ settleBy bare n zeroTally m
-  pub empties : (n : ℕ) (t : Tally) (m : Model) → inOrder m ≡ true → AllUp m → 8 * openRecords m ≤ n → openRecords (settle n t m .model) ≡ 0
-  -- sixteen records on each of four partitions, eight steps each
-  pub small : (n : ℕ) (t : Tally) (m : Model) → inOrder m ≡ true → settle n t m .tally .steps ≤ 512
+  pub empties : (n : ℕ) (t : Tally) (m : Model) → inOrder m ≡ true → AllUp m → stepsPerRecord * openRecords m ≤ n → openRecords (settle n t m .model) ≡ 0
+  -- full logs on all four partitions: 512 steps
+  pub small : (n : ℕ) (t : Tally) (m : Model) → inOrder m ≡ true → settle n t m .tally .steps ≤ stepsPerRecord * (maxPartitions * maxRecords)
 
 -- Claim 5, "A refusal leaves the tables … unchanged, the tally too", and no number or reply comes with it.
 pub record RefusalsKeep : Type 0 where

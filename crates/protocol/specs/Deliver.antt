@@ -53,12 +53,14 @@ abbrev pub dropVerdict : List Backpointer → Verdict
 dropVerdict [] = saysOnly No
 dropVerdict (b ∷ bs) = dropsIt
 
+abbrev pub toAdd : Kind → List Backpointer → ℕ → Message → Verdict
+toAdd k bs s x =
+    placeVerdict x (keep (inItsPlace s x) bs) (addVerdict k (keep (ofObject (x .object)) bs) (leb maxBackpointers (length bs)))
+
 abbrev pub verdictOf : Kind → List Backpointer → ℕ → Message → Verdict
+verdictOf Link bs s x = toAdd Link bs s x
+verdictOf Create bs s x = toAdd Create bs s x
 verdictOf Unlink bs s x = dropVerdict (keep (isExactly s x) bs)
-verdictOf Link bs s x =
-    placeVerdict x (keep (inItsPlace s x) bs) (addVerdict Link (keep (ofObject (x .object)) bs) (leb maxBackpointers (length bs)))
-verdictOf Create bs s x =
-    placeVerdict x (keep (inItsPlace s x) bs) (addVerdict Create (keep (ofObject (x .object)) bs) (leb maxBackpointers (length bs)))
 
 unfoldable pub verdict : Partition → ℕ → Message → Verdict
 verdict t s x = verdictOf (x .kind) (t .backpointers) s x

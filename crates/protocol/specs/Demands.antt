@@ -68,6 +68,10 @@ isStep (Crashing p) = false
 isStep (Recovering p) = false
 isStep (Opening k) = false
 
+-- "at most eight accepted steps for each record then open"
+abbrev pub stepsPerRecord : ℕ
+stepsPerRecord = 8
+
 -- how many of these events are accepted, one after the other
 unfoldable pub acceptedIn : List Event → Model → ℕ
 acceptedIn es m = length (keep (λ (a : Answer). isAccepted (a .refusal)) (answers es m))
