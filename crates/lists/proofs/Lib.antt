@@ -14,3 +14,4 @@ pub mod Tidies
 pub mod Stores
 pub mod Arrays
 pub mod Finds
+pub mod Images
