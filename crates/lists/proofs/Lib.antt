@@ -4,3 +4,14 @@ pub mod Members
 pub mod Apart
 pub mod Sums
 pub mod Places
+pub mod Chains
+pub mod Walks
+pub mod Loops
+pub mod Pairs
+pub mod Downs
+pub mod Fills
+pub mod Tidies
+pub mod Stores
+pub mod Arrays
+pub mod Finds
+pub mod Images

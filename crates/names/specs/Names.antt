@@ -44,3 +44,7 @@ sameName s t = eqb (s .len) (t .len) && sameBytes (s .bytes) (t .bytes)
 -- the name that bytes spell; more than eight spell one whose length says so, and which is no good name
 unfoldable pub nameOf : List ℕ → Name
 nameOf bs = record { len = min (length bs) (suc nameBytes); bytes = take nameBytes (bs ++ replicate nameBytes 0) }
+
+-- the name of a free slot
+unfoldable pub zeroName : Name
+zeroName = record { len = 0; bytes = replicate nameBytes 0 }
