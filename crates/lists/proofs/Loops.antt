@@ -129,4 +129,4 @@ pub ruleset alls = (all-start, all-not, all-next, all-done)
 
 pub ruleset nones = (none-start, none-here, none-next, none-done)
 
-pub ruleset counts = (count-start, count-turn, count-done)
+pub ruleset countings = (count-start, count-turn, count-done)
