@@ -1,5 +1,23 @@
 -- The clauses of the order, each as a test of the least that it looks at: one list, the count of partitions, a last number. What
 -- the code tests is said with them; that they are together document 01's order is proved (`proofs/Whole.antt`).
+use mathlib.Core.Bool.{Bool, _&&_, _||_, not}
+use mathlib.Core.List.{List, [], _∷_}
+use Prim.Native.Nat.{_%_, _*_, _+_, _/_, _<_, _≤_, ℕ}
+use lib.Dec.{eqb, leb, ltb}
+use lib.ListN.{getD, length}
+use Rattle.lists.specs.Lists.{all, any, apart, every, isNone, keep, pick}
+use Rattle.names.specs.Names.{goodName}
+use Rattle.protocol.specs.Bounds.{maxEntries, maxMessages, maxPartitions, queueCount}
+use Rattle.protocol.specs.Elements.{bodyFits, isReady, isRequest, isSent, stageFits}
+use Rattle.protocol.specs.Order.{backpointersClash, entriesClash, isAnswerTo, isRequestOf, recordsClash, sentAs}
+use Rattle.protocol.specs.declared.Backpointer.{Backpointer}
+use Rattle.protocol.specs.declared.Entry.{Entry}
+use Rattle.protocol.specs.declared.Message.{Message}
+use Rattle.protocol.specs.declared.Record.{Record}
+use Rattle.tables.specs.View.{Ranged, absent, messagesOf, noPartition, noQueue, partitionAt, queueAt, recordsOf, shapedPartition, viewPartition}
+use Rattle.tables.specs.declared.Partition.{Partition}
+use Rattle.tables.specs.declared.Queue.{Queue}
+use Rattle.tables.specs.declared.Tables.{Tables}
 use Rattle.protocol.specs.Tables.{Partition as Part, Model, isDirectory, isObject, unentered}
 
 -- ---- one partition among n

@@ -7,10 +7,10 @@ ghost use Rattle.protocol.specs.Bounds.{maxPartitions, queueCount};
 ghost use Rattle.protocol.specs.Order.{inOrder};
 ghost use Rattle.tables.specs.View.{view, shaped, shapedQueue};
 ghost use Rattle.order.specs.Clauses.{placeFine, lastsOf, placeAt, pairAt, RangedPartitions, RangedQueues};
-use tables::Partition;
-use tables::Tables;
 use tables::MAX_PARTITIONS;
+use tables::Partition;
 use tables::QUEUES;
+use tables::Tables;
 
 pub mod messages;
 pub mod partition;

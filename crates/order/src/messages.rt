@@ -26,7 +26,9 @@ pub fn is_of(r: Record, x: Message) -> bool
     let m = x.name;
     let n = r.name;
     let named = names::same(m, n);
-    alike & ((x.directory == r.directory) & ((x.partition == r.partition) & ((x.object == r.object) & named)))
+    alike
+        & ((x.directory == r.directory)
+            & ((x.partition == r.partition) & ((x.object == r.object) & named)))
 }
 
 // Whether a record is sent, towards a partition, and the message is of it.
@@ -175,7 +177,15 @@ pub fn records_answered(xs: Records, r: u8, q: Queue, back: Queue) -> bool
 }
 
 // The queue q from s to r and the queue back, the records xs of s and ys of r; whether both partitions are up.
-pub fn pair_in_order(up: bool, xs: Records, ys: Records, s: u8, r: u8, q: Queue, back: Queue) -> bool
+pub fn pair_in_order(
+    up: bool,
+    xs: Records,
+    ys: Records,
+    s: u8,
+    r: u8,
+    q: Queue,
+    back: Queue,
+) -> bool
     requires { ⌜ (xs .count ≤ maxRecords) × (ys .count ≤ maxRecords) × (q .count ≤ maxMessages) × (back .count ≤ maxMessages) ⌝ }
     ensures { λ a. ⌜ a ≡ pairFine up (recordsOf xs) (recordsOf ys) s r (messagesOf q) (messagesOf back) ⌝ }
 {

@@ -10,13 +10,13 @@ use protocol::Backpointer;
 use protocol::Entry;
 use protocol::Record;
 use tables::Backpointers;
-use tables::Entries;
-use tables::Partition;
-use tables::Records;
 use tables::DIRECTORIES;
+use tables::Entries;
 use tables::MAX_ENTRIES;
 use tables::MAX_PARTITIONS;
 use tables::OBJECTS;
+use tables::Partition;
+use tables::Records;
 
 pub fn is_placed(directory: u8, partition: u8, object: u8, n: usize) -> bool
     ensures { λ r. ⌜ r ≡ placedAmong n directory partition object ⌝ }

@@ -3,13 +3,13 @@ ghost use mathlib.Core.Path.{_≡_};
 ghost use Rattle.tables.specs.View.{shapedEntries, shapedBackpointers, shapedRecords, shapedQueue, shapedPartition, absent};
 use tables::Backpointers;
 use tables::Entries;
-use tables::Partition;
-use tables::Queue;
-use tables::Records;
 use tables::MAX_BACKPOINTERS;
 use tables::MAX_ENTRIES;
 use tables::MAX_MESSAGES;
 use tables::MAX_RECORDS;
+use tables::Partition;
+use tables::Queue;
+use tables::Records;
 
 pub fn entries_shaped(x: Entries) -> bool
     ensures { λ r. ⌜ r ≡ shapedEntries x ⌝ }
@@ -110,5 +110,7 @@ pub fn is_absent(p: Partition) -> bool
     let entries = p.entries;
     let backpointers = p.backpointers;
     let records = p.records;
-    !up & ((p.last == 0) & ((entries.count == 0) & ((backpointers.count == 0) & (records.count == 0))))
+    !up
+        & ((p.last == 0)
+            & ((entries.count == 0) & ((backpointers.count == 0) & (records.count == 0))))
 }

@@ -7,10 +7,10 @@ ghost use Rattle.protocol.specs.Bounds.{maxEntries, maxBackpointers, maxRecords
 ghost use Rattle.protocol.specs.Tables.{entryBears, recordBears, standsUnder, inPlace, unentered};
 ghost use Rattle.protocol.specs.Deliver.{isExactly, ofObject};
 ghost use Rattle.tables.specs.View.{entriesOf, backpointersOf, recordsOf};
-use crate::elements;
 use crate::Backpointers;
 use crate::Entries;
 use crate::Records;
+use crate::elements;
 use lists::Found;
 use names::Name;
 use protocol::Backpointer;
