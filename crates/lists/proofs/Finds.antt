@@ -1,7 +1,7 @@
 -- Where a search ended: the place lies within, and what its test keeps begins there.
 use mathlib.Core.Bool.{Bool, false, true}
 use mathlib.Core.List.{List, [], _∷_}
-use mathlib.Core.Path.{_∙_, _≡_, refl, sym}
+use mathlib.Core.Path.{_∙_, _≡_, ap, refl, sym}
 use Prim.Native.Nat.{_*_, _+_, _<_, _^_, _≤_, suc, ℕ}
 use native.Mathlib.Omega.{arith}
 use lib.Dec.{T, lit<, ltb}
@@ -9,8 +9,11 @@ use lib.ListN.{getD, length, length-take, take}
 use lib.Seq.{getD-take}
 use mir.Syntax.{w64}
 use mir.Val.{Fits}
+use denote.Struct.Rest.{rest}
 use borrow.Author.Needs.{scaled-fits}
-use Rattle.lists.specs.Lists.{At, Found, Nothing, firstAt, firstFrom, keep, pick}
+use Rattle.lists.specs.Lists.{firstAt, firstFrom, isNone, keep, pick}
+use Rattle.lists.specs.declared.Found.{Found}
+use Rattle.lists.specs.declared.Found.the-variants.{At, Nothing}
 
 module _ {A : Type 0} where
   -- the first that is kept stands at the place found
@@ -65,3 +68,15 @@ found-in f xs n i N r e q h = omega (arith, first-below f 0 (take n xs) i (sym e
 -- the place found, scaled by the size of an element
 pub found-fits : {A : Type 0} (f : A → Bool) (xs : List A) (n i k : ℕ) (r : Found) → r ≡ firstAt f (take n xs) → r ≡ At i → n ≤ 64 → T (ltb (64 * k) (2 ^ 63)) → Fits w64 (i * k)
 found-fits f xs n i k r e q h t = scaled-fits i 64 k (found-in f xs n i 64 r e q h) (lit< t)
+
+-- what the end of a search says of whether anything is kept
+module _ {A : Type 0} (f : A → Bool) (l : List A) (r : Found) (e : r ≡ firstAt f l) where
+  pub found-none : r ≡ Nothing → true ≡ isNone (keep f l)
+  found-none q = sym (ap isNone (none-kept f 0 l (sym e ∙ q)))
+
+  pub found-some : (i : ℕ) → r ≡ At i → false ≡ isNone (keep f l)
+  found-some i q = go l (sym e ∙ q)
+    where
+      go : (l : List A) → firstAt f l ≡ At i → false ≡ isNone (keep f l)
+      go [] h = unfold firstFrom in (absurd (let z : _≡_ {A = ℕ} 0 1 = cc in omega arith))
+      go (x ∷ k) h = sym (ap isNone (first-kept f 0 i (x ∷ k) x h .kept))

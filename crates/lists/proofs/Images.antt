@@ -8,6 +8,7 @@ use lib.ListN.{drop, getD, length, length-drop, replicate}
 use lib.Seq.{getD-drop}
 use Rattle.lists.specs.Lists.{all}
 use Rattle.lists.proofs.Places.{all-at}
+use Rattle.lists.proofs.Tests.{both-true}
 
 -- there and back, at each place of a list
 module _ {A B : Type 0} (f : A → B) (g : B → A) (d : A) where
@@ -34,3 +35,10 @@ all-past f n l d e i h g =
     let q : n + (i - n) ≡ i = omega arith in
     let a = all-at f d (drop n l) e (i - n) (rw (length-drop n l) (omega arith)) in
     rw (getD-drop n l (i - n) d, q) at a
+
+pub past-all : {A : Type 0} (f : A → Bool) (n : ℕ) (l : List A) (d : A) → ((i : ℕ) → n ≤ i → i < length l → f (getD l i d) ≡ true) → all f (drop n l) ≡ true
+unfolding all
+past-all f zero [] d h = refl
+past-all f (suc n) [] d h = refl
+past-all f zero (x ∷ l) d h = both-true (h 0 (omega arith) (omega arith)) (past-all f zero l d (λ i a b. h (suc i) (omega arith) (omega arith)))
+past-all f (suc n) (x ∷ l) d h = past-all f n l d (λ i a b. h (suc i) (omega arith) (omega arith))

@@ -5,11 +5,13 @@ use mathlib.Core.Bool.{Bool, _&&_, _||_, false, true}
 use mathlib.Core.List.{List, _∷_}
 use mathlib.Core.Path.{_∙_, _≡_, ap, refl, sym}
 use Prim.Native.Nat.{_+_, _<_, _≤_, ℕ}
+use native.Mathlib.Nat.{le-refl}
 use native.Mathlib.Omega.{arith}
 use lib.ListN.{drop, getD, length, take}
-use lib.Seq.{getD-take, length-take-le}
-use Rattle.lists.specs.Lists.{At, Found, Nothing, all, any, firstAt, firstFrom, isNone, keep, pick}
-use Rattle.lists.proofs.Keep.{seen}
+use lib.Seq.{getD-take, length-take-le, take-all}
+use Rattle.lists.specs.Lists.{all, any, firstAt, firstFrom, isNone, keep, pick}
+use Rattle.lists.specs.declared.Found.{Found}
+use Rattle.lists.specs.declared.Found.the-variants.{At, Nothing}
 use Rattle.lists.proofs.Tests.{hit}
 use Rattle.lists.proofs.Walks.{all-end, all-step, any-end, any-step, first-end, first-step, keep-end, keep-step}
 
@@ -34,6 +36,10 @@ module _ {A : Type 0} where
 
   pub all-start : (f : A → Bool) (xs : List A) (n : ℕ) → Testing (all f (take n xs)) f xs n 0
   all-start f xs n = record { left = refl }
+
+  -- over a whole array
+  pub all-whole : (f : A → Bool) (xs : List A) (n : ℕ) → length xs ≡ n → Testing (all f xs) f xs n 0
+  all-whole f xs n e = record { left = rw (← e) (sym (ap (all f) (take-all (length xs) xs (le-refl _)))) }
 
   -- ---- whether none passes
   pub record Lacking (Q : Bool) (f : A → Bool) (xs : List A) (n i : ℕ) : Type 0 where
@@ -125,8 +131,8 @@ pub ruleset finds = (find-start, find-here, find-next, find-none)
 
 pub ruleset anys = (any-start, any-here, any-next, any-none)
 
-pub ruleset alls = (all-start, all-not, all-next, all-done)
+pub ruleset alls = (all-start, all-whole, all-not, all-next, all-done)
 
 pub ruleset nones = (none-start, none-here, none-next, none-done)
 
-pub ruleset counts = (count-start, count-turn, count-done)
+pub ruleset countings = (count-start, count-turn, count-done)

@@ -1,3 +1,4 @@
 pub mod Known
 pub mod Packs
 pub mod Views
+pub mod Rooms

@@ -34,7 +34,8 @@ pub queue-view : (t : Tables) (s r : ℕ) → queue (view t) s r ≡ messagesOf 
 unfolding queue view
 queue-view t s r = List·getD-map messagesOf (t .queues) (s * maxPartitions + r) noQueue
 
-past-view : (m : Model) (i : ℕ) → partitionCount m ≤ i → partition m i ≡ noPart
+-- one that is not there
+pub past-view : (m : Model) (i : ℕ) → partitionCount m ≤ i → partition m i ≡ noPart
 unfolding partition
 past-view m i h = getD-past (m .partitions) i noPart h
 

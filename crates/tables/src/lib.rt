@@ -5,6 +5,7 @@ use protocol::Message;
 use protocol::Record;
 
 pub mod elements;
+pub mod reads;
 
 pub const MAX_PARTITIONS: usize = 4;
 

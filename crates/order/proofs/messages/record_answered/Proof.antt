@@ -1,0 +1,37 @@
+use borrow.Author.Needs.{needs}
+use Rattle.order.proofs.Laws.{answereds}
+use Rattle.order.proofs.messages.record_answered.Statement.{statement}
+use Rattle.order.proofs.messages.record_answered.Tie as tie
+
+is-sent-requires : tie.Need-is-sent-requires
+is-sent-requires c κs = search (answereds, needs)
+
+returns : tie.Need-returns
+returns c = search (answereds, needs)
+
+returns-2 : tie.Need-returns-2
+returns-2 c = search (answereds, needs)
+
+count-requests-requires : tie.Need-count-requests-requires
+count-requests-requires c κs = search (answereds, needs)
+
+count-answers-requires : tie.Need-count-answers-requires
+count-answers-requires c κs = search (answereds, needs)
+
+add-result : tie.Need-add-result
+add-result c = search (answereds, needs)
+
+returns-3 : tie.Need-returns-3
+returns-3 c = search (answereds, needs)
+
+pub record-answered-spec : {M : Type 1} → statement M
+record-answered-spec =
+    tie.close
+    (tie.spec
+    is-sent-requires
+    returns
+    returns-2
+    count-requests-requires
+    count-answers-requires
+    add-result
+    returns-3)

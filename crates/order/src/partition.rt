@@ -1,0 +1,399 @@
+// O1 to O5 and the records' half of O7: what is asked of one partition, among so many.
+ghost use Prim.Native.Nat.{_≤_};
+ghost use mathlib.Core.Path.{_≡_};
+ghost use Rattle.lists.specs.Lists.{all, apart};
+ghost use Rattle.protocol.specs.Bounds.{maxPartitions, maxEntries, maxBackpointers, maxRecords};
+ghost use Rattle.protocol.specs.Order.{entriesClash, backpointersClash, recordsClash};
+ghost use Rattle.tables.specs.View.{entriesOf, backpointersOf, recordsOf, viewPartition, Ranged};
+ghost use Rattle.order.specs.Clauses.{placedAmong, entryAmong, backpointerAmong, recordAmong, given, entryGiven, backpointerGiven, recordGiven, entriesFine, backpointersFine, recordsFine, roomIn, readyRecord, partitionFine};
+use protocol::Backpointer;
+use protocol::Entry;
+use protocol::Record;
+use tables::Backpointers;
+use tables::DIRECTORIES;
+use tables::Entries;
+use tables::MAX_ENTRIES;
+use tables::MAX_PARTITIONS;
+use tables::OBJECTS;
+use tables::Partition;
+use tables::Records;
+
+pub fn is_placed(directory: u8, partition: u8, object: u8, n: usize) -> bool
+    ensures { λ r. ⌜ r ≡ placedAmong n directory partition object ⌝ }
+{
+    let place = partition as usize;
+    (directory < DIRECTORIES) & ((place < n) & (object < OBJECTS))
+}
+
+pub fn entry_in_range(e: Entry, n: usize) -> bool
+    ensures { λ r. ⌜ r ≡ entryAmong n e ⌝ }
+{
+    let placed = is_placed(e.directory, e.partition, e.object, n);
+    let name = e.name;
+    let named = names::good(name);
+    placed & named
+}
+
+pub fn backpointer_in_range(b: Backpointer, n: usize) -> bool
+    ensures { λ r. ⌜ r ≡ backpointerAmong n b ⌝ }
+{
+    let placed = is_placed(b.directory, b.parent, b.object, n);
+    let name = b.name;
+    let named = names::good(name);
+    placed & named
+}
+
+pub fn record_in_range(r: Record, n: usize) -> bool
+    ensures { λ a. ⌜ a ≡ recordAmong n r ⌝ }
+{
+    let placed = is_placed(r.directory, r.partition, r.object, n);
+    let name = r.name;
+    let named = names::good(name);
+    let kind = r.kind;
+    let stage = r.stage;
+    let fits = tables::elements::stage_fits(kind, stage);
+    placed & (named & fits)
+}
+
+// Whether a number was given, where this is the giver's last.
+pub fn is_given(last: u32, number: u32) -> bool
+    ensures { λ r. ⌜ r ≡ given last number ⌝ }
+{
+    (1 <= number) & (number <= last)
+}
+
+pub fn entry_given(e: Entry, last: u32) -> bool
+    ensures { λ r. ⌜ r ≡ entryGiven last e ⌝ }
+{
+    is_given(last, e.number)
+}
+
+pub fn record_given(r: Record, last: u32) -> bool
+    ensures { λ a. ⌜ a ≡ recordGiven last r ⌝ }
+{
+    is_given(last, r.number)
+}
+
+// The giver of a back-pointer's number is its parent.
+pub fn backpointer_given(b: Backpointer, lasts: [u32; MAX_PARTITIONS]) -> bool
+    ensures { λ r. ⌜ r ≡ backpointerGiven lasts b ⌝ }
+{
+    let parent = b.parent as usize;
+    if MAX_PARTITIONS <= parent {
+        return false;
+    }
+    let last = lasts[parent];
+    is_given(last, b.number)
+}
+
+// The numbers are compared first: they differ soonest.
+pub fn entries_clash(a: Entry, b: Entry) -> bool
+    ensures { λ r. ⌜ r ≡ entriesClash a b ⌝ }
+{
+    if b.number == a.number {
+        return true;
+    }
+    if b.directory != a.directory {
+        return false;
+    }
+    let m = b.name;
+    let n = a.name;
+    names::same(m, n)
+}
+
+pub fn backpointers_clash(a: Backpointer, b: Backpointer) -> bool
+    ensures { λ r. ⌜ r ≡ backpointersClash a b ⌝ }
+{
+    if b.object != a.object {
+        return false;
+    }
+    if b.parent != a.parent {
+        return false;
+    }
+    if b.directory != a.directory {
+        return false;
+    }
+    let m = b.name;
+    let n = a.name;
+    names::same(m, n)
+}
+
+pub fn records_clash(a: Record, b: Record) -> bool
+    ensures { λ r. ⌜ r ≡ recordsClash a b ⌝ }
+{
+    b.number == a.number
+}
+
+// ---- the entries of a partition
+
+pub fn entries_in_range(x: Entries, n: usize) -> bool
+    requires { ⌜ x .count ≤ maxEntries ⌝ }
+    ensures { λ r. ⌜ r ≡ all (entryAmong n) (entriesOf x) ⌝ }
+{
+    let count = x.count;
+    let mut i: usize = 0;
+    while i < count {
+        let item = x.items[i];
+        if entry_in_range(item, n) {
+            i += 1;
+        } else {
+            return false;
+        }
+    }
+    true
+}
+
+pub fn entries_given(x: Entries, last: u32) -> bool
+    requires { ⌜ x .count ≤ maxEntries ⌝ }
+    ensures { λ r. ⌜ r ≡ all (entryGiven last) (entriesOf x) ⌝ }
+{
+    let count = x.count;
+    let mut i: usize = 0;
+    while i < count {
+        let item = x.items[i];
+        if entry_given(item, last) {
+            i += 1;
+        } else {
+            return false;
+        }
+    }
+    true
+}
+
+pub fn entries_apart(x: Entries) -> bool
+    requires { ⌜ x .count ≤ maxEntries ⌝ }
+    ensures { λ r. ⌜ r ≡ apart entriesClash (entriesOf x) ⌝ }
+{
+    let count = x.count;
+    let mut i: usize = 0;
+    while i < count {
+        let a = x.items[i];
+        let mut j: usize = i + 1;
+        while j < count {
+            let b = x.items[j];
+            if entries_clash(a, b) {
+                return false;
+            }
+            j += 1;
+        }
+        i += 1;
+    }
+    true
+}
+
+pub fn entries_in_order(x: Entries, n: usize, last: u32) -> bool
+    requires { ⌜ x .count ≤ maxEntries ⌝ }
+    ensures { λ r. ⌜ r ≡ entriesFine n last (entriesOf x) ⌝ }
+{
+    if entries_in_range(x, n) {} else {
+        return false;
+    }
+    if entries_given(x, last) {} else {
+        return false;
+    }
+    entries_apart(x)
+}
+
+// ---- its back-pointers
+
+pub fn backpointers_in_range(x: Backpointers, n: usize) -> bool
+    requires { ⌜ x .count ≤ maxBackpointers ⌝ }
+    ensures { λ r. ⌜ r ≡ all (backpointerAmong n) (backpointersOf x) ⌝ }
+{
+    let count = x.count;
+    let mut i: usize = 0;
+    while i < count {
+        let item = x.items[i];
+        if backpointer_in_range(item, n) {
+            i += 1;
+        } else {
+            return false;
+        }
+    }
+    true
+}
+
+pub fn backpointers_given(x: Backpointers, lasts: [u32; MAX_PARTITIONS]) -> bool
+    requires { ⌜ x .count ≤ maxBackpointers ⌝ }
+    ensures { λ r. ⌜ r ≡ all (backpointerGiven lasts) (backpointersOf x) ⌝ }
+{
+    let count = x.count;
+    let mut i: usize = 0;
+    while i < count {
+        let item = x.items[i];
+        if backpointer_given(item, lasts) {
+            i += 1;
+        } else {
+            return false;
+        }
+    }
+    true
+}
+
+pub fn backpointers_apart(x: Backpointers) -> bool
+    requires { ⌜ x .count ≤ maxBackpointers ⌝ }
+    ensures { λ r. ⌜ r ≡ apart backpointersClash (backpointersOf x) ⌝ }
+{
+    let count = x.count;
+    let mut i: usize = 0;
+    while i < count {
+        let a = x.items[i];
+        let mut j: usize = i + 1;
+        while j < count {
+            let b = x.items[j];
+            if backpointers_clash(a, b) {
+                return false;
+            }
+            j += 1;
+        }
+        i += 1;
+    }
+    true
+}
+
+pub fn backpointers_in_order(x: Backpointers, n: usize, lasts: [u32; MAX_PARTITIONS]) -> bool
+    requires { ⌜ x .count ≤ maxBackpointers ⌝ }
+    ensures { λ r. ⌜ r ≡ backpointersFine n lasts (backpointersOf x) ⌝ }
+{
+    if backpointers_in_range(x, n) {} else {
+        return false;
+    }
+    if backpointers_given(x, lasts) {} else {
+        return false;
+    }
+    backpointers_apart(x)
+}
+
+// ---- its records
+
+pub fn records_in_range(x: Records, n: usize) -> bool
+    requires { ⌜ x .count ≤ maxRecords ⌝ }
+    ensures { λ r. ⌜ r ≡ all (recordAmong n) (recordsOf x) ⌝ }
+{
+    let count = x.count;
+    let mut i: usize = 0;
+    while i < count {
+        let item = x.items[i];
+        if record_in_range(item, n) {
+            i += 1;
+        } else {
+            return false;
+        }
+    }
+    true
+}
+
+pub fn records_given(x: Records, last: u32) -> bool
+    requires { ⌜ x .count ≤ maxRecords ⌝ }
+    ensures { λ r. ⌜ r ≡ all (recordGiven last) (recordsOf x) ⌝ }
+{
+    let count = x.count;
+    let mut i: usize = 0;
+    while i < count {
+        let item = x.items[i];
+        if record_given(item, last) {
+            i += 1;
+        } else {
+            return false;
+        }
+    }
+    true
+}
+
+pub fn records_apart(x: Records) -> bool
+    requires { ⌜ x .count ≤ maxRecords ⌝ }
+    ensures { λ r. ⌜ r ≡ apart recordsClash (recordsOf x) ⌝ }
+{
+    let count = x.count;
+    let mut i: usize = 0;
+    while i < count {
+        let a = x.items[i];
+        let mut j: usize = i + 1;
+        while j < count {
+            let b = x.items[j];
+            if records_clash(a, b) {
+                return false;
+            }
+            j += 1;
+        }
+        i += 1;
+    }
+    true
+}
+
+pub fn records_in_order(x: Records, n: usize, last: u32) -> bool
+    requires { ⌜ x .count ≤ maxRecords ⌝ }
+    ensures { λ r. ⌜ r ≡ recordsFine n last (recordsOf x) ⌝ }
+{
+    if records_in_range(x, n) {} else {
+        return false;
+    }
+    if records_given(x, last) {} else {
+        return false;
+    }
+    records_apart(x)
+}
+
+pub fn is_ready_record(r: Record) -> bool
+    ensures { λ a. ⌜ a ≡ readyRecord r ⌝ }
+{
+    let stage = r.stage;
+    tables::elements::is_ready(stage)
+}
+
+pub fn all_ready(x: Records) -> bool
+    requires { ⌜ x .count ≤ maxRecords ⌝ }
+    ensures { λ r. ⌜ r ≡ all readyRecord (recordsOf x) ⌝ }
+{
+    let count = x.count;
+    let mut i: usize = 0;
+    while i < count {
+        let item = x.items[i];
+        if is_ready_record(item) {
+            i += 1;
+        } else {
+            return false;
+        }
+    }
+    true
+}
+
+// ---- the partition
+
+// Where the records would fit even if no entry bore their numbers, they need not be looked at.
+pub fn has_room(entries: Entries, records: Records) -> bool
+    requires { ⌜ (entries .count ≤ maxEntries) × (records .count ≤ maxRecords) ⌝ }
+    ensures { λ r. ⌜ r ≡ roomIn (entriesOf entries) (recordsOf records) ⌝ }
+{
+    if entries.count + records.count <= MAX_ENTRIES {
+        return true;
+    }
+    tables::reads::claimed(entries, records) <= MAX_ENTRIES
+}
+
+pub fn partition_in_order(p: Partition, n: usize, lasts: [u32; MAX_PARTITIONS]) -> bool
+    requires { ⌜ Ranged p ⌝ }
+    ensures { λ r. ⌜ r ≡ partitionFine n lasts (viewPartition p) ⌝ }
+{
+    let last = p.last;
+    let entries = p.entries;
+    if entries_in_order(entries, n, last) {} else {
+        return false;
+    }
+    let backpointers = p.backpointers;
+    if backpointers_in_order(backpointers, n, lasts) {} else {
+        return false;
+    }
+    let records = p.records;
+    if records_in_order(records, n, last) {} else {
+        return false;
+    }
+    if has_room(entries, records) {} else {
+        return false;
+    }
+    let up = p.up;
+    if up {
+        return true;
+    }
+    all_ready(records)
+}
