@@ -19,7 +19,6 @@ use Rattle.lists.proofs.Images.{getD-past, past-all}
 use Rattle.lists.proofs.Places.{all-at}
 use Rattle.lists.proofs.Tests.{_also_, and-left, and-right, below-at, below-true, bool-same, both-true, byTest, done, every-at, every-of}
 use Rattle.lists.proofs.Tidies.{tidy-count}
-use Rattle.protocol.proofs.Look.{at}
 use Rattle.tables.proofs.Packs.{Shaped, shaped-all}
 use Rattle.tables.proofs.Views.{count-view, partition-there, partition-view, past-view, queue-view, queues-view, ranged}
 use Rattle.order.proofs.Whole.{PairOrder, PartitionOrder, Within, fine-of, order-of, order-whole, pair-order, pair-test, pairTest, whole-pieces}

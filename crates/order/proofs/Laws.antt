@@ -24,7 +24,6 @@ use Rattle.order.specs.Clauses.{RangedPartitions, RangedQueues, backpoin
 use Rattle.lists.proofs.Images.{getD-past}
 use Rattle.lists.proofs.Tests.{and-left, and-right, byTest, no-true, not-false, or-else}
 use Rattle.protocol.proofs.Changes.{sent}
-use Rattle.protocol.proofs.Look.{at}
 use Rattle.tables.proofs.Rooms.{room-easy}
 use Rattle.tables.proofs.Views.{ranged}
 

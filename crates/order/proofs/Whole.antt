@@ -20,7 +20,6 @@ use Rattle.protocol.specs.declared.Record.{Record}
 use Rattle.order.specs.Clauses.{backpointerAmong, backpointerGiven, backpointersFine, entriesFine, entryAmong, given, messageFine, pairFine, partitionFine, placedAmong, recordAmong, recordAnswered, recordsFine, roomIn}
 use Rattle.lists.proofs.Members.{all-get, all-true}
 use Rattle.lists.proofs.Tests.{_also_, and-left, and-right, below-at, below-true, both-true, byTest, done, eqb-same, every-at, every-of, or-else, or-right}
-use Rattle.protocol.proofs.Look.{at}
 use Rattle.tables.proofs.Views.{past-view}
 use Rattle.protocol.specs.Tables.{Partition as Part, Model, partition, queue, partitionCount, isPartition, claimed, noPartition as noPart}
 
