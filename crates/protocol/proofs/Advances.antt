@@ -6,9 +6,9 @@ use Prim.Native.Nat.{_<_, _≤_, ℕ}
 use lib.Dec.{T, lit<, lit≤}
 use lib.ListN.{length}
 use Rattle.lists.specs.Lists.{isSome, keep}
-use Rattle.protocol.specs.Advance.{Next, advance, advanceFound, enters, next, nextOf, nextToAdd, nextToRemove, perform, sends, stays, turns}
+use Rattle.protocol.specs.Advance.{advance, advanceFound, next, nextOf, nextToAdd, nextToRemove, perform}
 use Rattle.protocol.specs.Answers.{Outcome, accepted, check}
-use Rattle.protocol.specs.Elements.{Backpointer, Cleared, Create, Entry, Held, Kind, Link, Ready, Record, RecordSent, Refused, Sent, Stage, Unlink, adds}
+use Rattle.protocol.specs.Elements.{Backpointer, Cleared, Create, Enters, Entry, Held, Kind, Link, Next, Ready, Record, RecordSent, Refused, Sends, Sent, Stage, Stays, Turns, Unlink, adds}
 use Rattle.protocol.specs.Tables.{Model, closeRecord, isPartition, partition, recordBears, standsUnder, turned}
 use Rattle.lists.proofs.Tests.{byTest, no-true}
 use Rattle.protocol.proofs.Changes.{alter-else, alter-view, close-else, close-view, enter-else, enter-view, leave-else, leave-view, no-step, sent, sent-else, sent-view}
@@ -39,7 +39,7 @@ module _ (m : Model) (p n : ℕ) (c : Content) (s : Shape m) (h : partition m p 
   module _ (fi : Fine m c) where
     -- a ready record without an entry is sent
     send-moved : (k : Kind) (w : ℕ) → View m p n [] (recordAt c n k Ready ∷ []) B (λ a b. []) → weigh [] (asking k) < w
-        → accepted (perform m p (recordAt c n k Ready) sends) ≡ true → Moved m (perform m p (recordAt c n k Ready) sends .model) p n w
+        → accepted (perform m p (recordAt c n k Ready) Sends) ≡ true → Moved m (perform m p (recordAt c n k Ready) Sends .model) p n w
     unfolding perform check sent
     send-moved k w v l e =
         byTest (partition m (c .partition) .up)
@@ -48,7 +48,7 @@ module _ (m : Model) (p n : ℕ) (c : Content) (s : Shape m) (h : partition m p 
         (λ t. no-step (rw t at e))
 
     enter-moved : (k : Kind) → adds k ≡ true → T ≡ [] → View m p n [] (recordAt c n k Held ∷ []) B (λ a b. [])
-        → Moved m (perform m p (recordAt c n k Held) enters .model) p n 5
+        → Moved m (perform m p (recordAt c n k Held) Enters .model) p n 5
     unfolding perform
     enter-moved k a e v =
         move m p n c s h B bf (entryAt c n ∷ []) (rests k Held)
@@ -58,7 +58,7 @@ module _ (m : Model) (p n : ℕ) (c : Content) (s : Shape m) (h : partition m p 
         (λ e i. subst (λ (y : Entry). Fine m (ofEntry y)) (sym (List·Memᴰ·eq-of-singleton i)) fi)
         (rw (weigh-rests k a (entryAt c n ∷ []) Held) (lit< tt))
 
-    turn-moved : (k : Kind) → View m p n [] (recordAt c n k Held ∷ []) B (λ a b. []) → Moved m (perform m p (recordAt c n k Held) turns .model) p n 5
+    turn-moved : (k : Kind) → View m p n [] (recordAt c n k Held ∷ []) B (λ a b. []) → Moved m (perform m p (recordAt c n k Held) Turns .model) p n 5
     unfolding perform
     turn-moved k v =
         move m p n c s h B bf [] (rests Unlink Ready) (alter-else m p n s h turned (λ r. refl) (neat-turn (partition m p) (recordBears n)))
@@ -113,7 +113,7 @@ module _ (m : Model) (p n : ℕ) (c : Content) (s : Shape m) (h : partition m p 
     rest-moved Unlink g v e = remove-moved E refl g v e
 
 -- a sent record does not advance
-sent-next : (k : Kind) (entered taken : Bool) → nextOf k Sent entered taken ≡ stays RecordSent
+sent-next : (k : Kind) (entered taken : Bool) → nextOf k Sent entered taken ≡ Stays RecordSent
 sent-next Link entered taken = refl
 sent-next Create entered taken = refl
 sent-next Unlink entered taken = refl

@@ -10,9 +10,9 @@ use lib.ListN.{length}
 use borrow.Author.Tests.{eqb-true}
 use Rattle.lists.specs.Lists.{keep, one, without}
 use Rattle.protocol.specs.Answers.{accepted}
-use Rattle.protocol.specs.Deliver.{Verdict, carryOut, deliver, isExactly, land, receive, stageAfter, verdict, verdictOf}
+use Rattle.protocol.specs.Deliver.{carryOut, deliver, isExactly, land, receive, stageAfter, verdict, verdictOf}
 use Rattle.protocol.specs.Demands.{backpointerBears}
-use Rattle.protocol.specs.Elements.{Backpointer, Body, Cleared, Create, Entry, Held, Kind, Link, Message, No, NoBecause, PlaceTaken, Reason, Record, Refused, Request, Sent, Unlink, Yes, bodyFits, isRequest, isSent, stageFits}
+use Rattle.protocol.specs.Elements.{Backpointer, Body, Cleared, Create, Entry, Held, Kind, Link, Message, No, NoBecause, PlaceTaken, Reason, Record, Refused, Request, Sent, Unlink, Verdict, Yes, bodyFits, isRequest, isSent, stageFits}
 use Rattle.protocol.specs.Order.{giver}
 use Rattle.protocol.specs.Tables.{Model, Partition, changeBackpointers, fresh, inStage, partition, queue, recordBears, send, setPartition, setQueue, withBackpointers}
 use Rattle.lists.proofs.Keep.{keep-snoc, keep-without}

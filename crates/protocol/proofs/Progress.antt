@@ -8,11 +8,11 @@ use lib.Dec.{ltb}
 use lib.ListN.{length}
 use borrow.Author.Tests.{lt-ltb, ltb-false, ltb-true}
 use Rattle.lists.specs.Lists.{all, keep}
-use Rattle.protocol.specs.Advance.{Next, advance, closes, enters, next, nextOf, nextToAdd, nextToRemove, perform, sends, stays, takesOut, turns}
+use Rattle.protocol.specs.Advance.{advance, next, nextOf, nextToAdd, nextToRemove, perform}
 use Rattle.protocol.specs.Answers.{Outcome, accepted, check}
 use Rattle.protocol.specs.Deliver.{deliver, deliverOldest}
 use Rattle.protocol.specs.Demands.{AllUp, isStep, openRecords}
-use Rattle.protocol.specs.Elements.{Backpointer, Cleared, Create, Entry, Held, Kind, Link, Message, Ready, Record, Refused, Request, Sent, Stage, Unlink, adds, isSent, stageFits}
+use Rattle.protocol.specs.Elements.{Backpointer, Cleared, Closes, Create, Enters, Entry, Held, Kind, Link, Message, Next, Ready, Record, Refused, Request, Sends, Sent, Stage, Stays, TakesOut, Turns, Unlink, adds, isSent, stageFits}
 use Rattle.protocol.specs.Events.{Advancing, Delivering, Event, apply, bare, run}
 use Rattle.protocol.specs.Order.{inOrder}
 use Rattle.protocol.specs.Tables.{Model, Partition, noPartition, partition, queue, recordBears}
@@ -30,12 +30,12 @@ use Rattle.protocol.proofs.Whole.{Fit, Sound, Way, Whole, asking, idle,
 
 -- a step is not a stay
 abbrev goes : Next → Bool
-goes (closes reply) = true
-goes sends = true
-goes enters = true
-goes turns = true
-goes takesOut = true
-goes (stays why) = false
+goes (Closes reply) = true
+goes Sends = true
+goes Enters = true
+goes Turns = true
+goes TakesOut = true
+goes (Stays why) = false
 
 module _ (m : Model) (g : Whole m) (up : AllUp m) (p n : ℕ) (h : p < length (m .partitions)) where
   abbrev Goes : Type 0
@@ -43,12 +43,12 @@ module _ (m : Model) (g : Whole m) (up : AllUp m) (p n : ℕ) (h : p < length (m
 
   up-perform : (c : Content) (k : Kind) (x : Next) (g : Stage) → Fine m c → goes x ≡ true → accepted (perform m p (recordAt c n k g) x) ≡ true
   unfolding perform check
-  up-perform c k (closes reply) g f o = refl
-  up-perform c k sends g f o = rw (up (c .partition) (f .partition), perform, check) refl
-  up-perform c k enters g f o = refl
-  up-perform c k turns g f o = refl
-  up-perform c k takesOut g f o = refl
-  up-perform c k (stays why) g f o = no-step o
+  up-perform c k (Closes reply) g f o = refl
+  up-perform c k Sends g f o = rw (up (c .partition) (f .partition), perform, check) refl
+  up-perform c k Enters g f o = refl
+  up-perform c k Turns g f o = refl
+  up-perform c k TakesOut g f o = refl
+  up-perform c k (Stays why) g f o = no-step o
 
   -- a resting record has a step to take
   add-goes : (k : Kind) → adds k ≡ true → (g : Stage) → stageFits k g ≡ true → isSent g ≡ false → (entered taken : Bool)

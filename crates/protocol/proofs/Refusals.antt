@@ -6,12 +6,12 @@ use Prim.Native.Nat.{ℕ}
 use lib.Dec.{eqb}
 use borrow.Author.Tests.{eqb-true}
 use Rattle.lists.specs.Lists.{keep, mapIf, without}
-use Rattle.protocol.specs.Advance.{Next, advance, advanceFound, closes, enters, next, nextOf, nextToAdd, nextToRemove, perform, sends, stays, takesOut, turns}
+use Rattle.protocol.specs.Advance.{advance, advanceFound, next, nextOf, nextToAdd, nextToRemove, perform}
 use Rattle.protocol.specs.Answers.{Outcome, accept, accepted, check, refuse}
 use Rattle.protocol.specs.Ask.{ask, askTables, unlink, unlinkFound}
 use Rattle.protocol.specs.Deliver.{deliver, deliverOldest}
 use Rattle.protocol.specs.Demands.{stillAdds}
-use Rattle.protocol.specs.Elements.{BadName, Cleared, Create, CutFromItself, Down, EntriesFull, Entry, Held, IsUp, Kind, Link, LogFull, Message, Name, NameAbsent, NameExists, NameTaken, NoRecord, NumbersSpent, OutOfRange, QueueEmpty, Ready, Record, RecordOpen, RecordSent, Refusal, Refused, Reply, Sent, Stage, TowardsDown, Unlink, adds, isAccepted, isOther, refusalNumber, stageFits}
+use Rattle.protocol.specs.Elements.{BadName, Cleared, Closes, Create, CutFromItself, Down, Enters, EntriesFull, Entry, Held, IsUp, Kind, Link, LogFull, Message, Name, NameAbsent, NameExists, NameTaken, Next, NoRecord, NumbersSpent, OutOfRange, QueueEmpty, Ready, Record, RecordOpen, RecordSent, Refusal, Refused, Reply, Sends, Sent, Stage, Stays, TakesOut, TowardsDown, Turns, Unlink, adds, isAccepted, isOther, refusalNumber, stageFits}
 use Rattle.protocol.specs.Events.{Advancing, Crashing, Creating, Cutting, Delivering, Event, Linking, Opening, Recovering, Unlinking, bare, tests}
 use Rattle.protocol.specs.Faults.{crash, cut, openTables, recover}
 use Rattle.protocol.specs.Tables.{Model, changeRecords, closeRecord, partition, queue, recordBears, standsUnder, turnRecord, turned}
@@ -93,18 +93,18 @@ module _ (m : Model) where
 
   -- a stage that fits its kind stays only when it is sent
   abbrev OnlySent : Next → Type 0
-  OnlySent x = (why : Refusal) → x ≡ stays why → why ≡ RecordSent
+  OnlySent x = (why : Refusal) → x ≡ Stays why → why ≡ RecordSent
 
   perform-fair : (p : ℕ) (r : Record) (x : Next) → partition m p .up ≡ true → OnlySent x → Fair m (Closed p (r .number)) (perform m p r x)
   unfolding perform changeRecords
-  perform-fair p r (closes reply) u h = accepts (r .number) reply (closeRecord m p (r .number)) λ e. rw (part-same m p _ (up-in m p u))
+  perform-fair p r (Closes reply) u h = accepts (r .number) reply (closeRecord m p (r .number)) λ e. rw (part-same m p _ (up-in m p u))
       (closed-none (r .number) (partition m p .records))
-  perform-fair p r sends u h = fair-check _ TowardsDown _ refl refl λ e. accepts _ _ _ λ f. no-true f refl
-  perform-fair p r enters u h = accepts _ _ _ λ f. no-true f refl
-  perform-fair p r turns u h = accepts (r .number) NameTaken (turnRecord m p (r .number)) λ e. rw (part-same m p _ (up-in m p u))
+  perform-fair p r Sends u h = fair-check _ TowardsDown _ refl refl λ e. accepts _ _ _ λ f. no-true f refl
+  perform-fair p r Enters u h = accepts _ _ _ λ f. no-true f refl
+  perform-fair p r Turns u h = accepts (r .number) NameTaken (turnRecord m p (r .number)) λ e. rw (part-same m p _ (up-in m p u))
       (turn-none (r .number) (partition m p .records))
-  perform-fair p r takesOut u h = accepts _ _ _ λ f. no-true f refl
-  perform-fair p r (stays why) u h = rw (h why refl) (refuses RecordSent refl refl)
+  perform-fair p r TakesOut u h = accepts _ _ _ λ f. no-true f refl
+  perform-fair p r (Stays why) u h = rw (h why refl) (refuses RecordSent refl refl)
 
   add-next : (k : Kind) → adds k ≡ true → (g : Stage) → stageFits k g ≡ true → (entered taken : Bool) → OnlySent (nextToAdd g entered taken)
   add-next k a Ready f true taken why e = cc

@@ -8,11 +8,11 @@ use lib.Dec.{T, eqb}
 use lib.ListN.{length}
 use borrow.Author.Tests.{eq-eqb}
 use Rattle.lists.specs.Lists.{isSome, keep, one}
-use Rattle.protocol.specs.Advance.{Next, advance, advanceFound, next, nextOf, nextToAdd, nextToRemove, perform, sends}
+use Rattle.protocol.specs.Advance.{advance, advanceFound, next, nextOf, nextToAdd, nextToRemove, perform}
 use Rattle.protocol.specs.Answers.{accepted, check}
-use Rattle.protocol.specs.Deliver.{Verdict, carryOut, deliver, inItsPlace, isExactly, land, receive, stageAfter, verdict, verdictOf}
+use Rattle.protocol.specs.Deliver.{carryOut, deliver, inItsPlace, isExactly, land, receive, stageAfter, verdict, verdictOf}
 use Rattle.protocol.specs.Demands.{backpointerBears}
-use Rattle.protocol.specs.Elements.{Backpointer, Body, Cleared, Create, Entry, Held, Kind, Link, Message, Name, No, NoBecause, PlaceTaken, Ready, Record, Refused, Request, Sent, Stage, Unlink, Yes, adds, bodyFits, isRequest}
+use Rattle.protocol.specs.Elements.{Backpointer, Body, Cleared, Create, Entry, Held, Kind, Link, Message, Name, Next, No, NoBecause, PlaceTaken, Ready, Record, Refused, Request, Sends, Sent, Stage, Unlink, Verdict, Yes, adds, bodyFits, isRequest}
 use Rattle.protocol.specs.Order.{giver}
 use Rattle.protocol.specs.Tables.{Model, closeRecord, inPlace, inStage, partition, queue, recordBears, send, setQueue, standsUnder, turned}
 use Rattle.lists.proofs.Keep.{alone, kept, seen}
@@ -78,8 +78,8 @@ module _ (m : Model) (p n : ℕ) (c : Content) (s : Shape m) (h : partition m p 
   tied w e st o v r = record
       { others = o; to = record { what = c; way = w; entry = e; back = st; fine = fine-else (o .count) fi; rule = r; has = v } }
 
-  send-tied : (k : Kind) (st : Bool) → Has m p n c (rests k Ready) false st → accepted (perform m p (recordAt c n k Ready) sends) ≡ true
-      → Tied m (perform m p (recordAt c n k Ready) sends .model) p n
+  send-tied : (k : Kind) (st : Bool) → Has m p n c (rests k Ready) false st → accepted (perform m p (recordAt c n k Ready) Sends) ≡ true
+      → Tied m (perform m p (recordAt c n k Ready) Sends .model) p n
   unfolding perform check sent
   send-tied k st v e =
       byTest (partition m (c .partition) .up)

@@ -7,21 +7,21 @@ use lib.Dec.{eqb, leb}
 use lib.ListN.{length}
 use borrow.Author.Tests.{leb-false}
 use Rattle.lists.specs.Lists.{keep}
-use Rattle.protocol.specs.Deliver.{Verdict, addVerdict, addsIt, dropVerdict, dropsIt, inItsPlace, isExactly, ofObject, placeVerdict, saysOnly, unlessFull, verdictOf}
-use Rattle.protocol.specs.Elements.{Backpointer, BackpointersFull, Create, Kind, Link, Message, No, NoBecause, ObjectIdle, ObjectInUse, PlaceTaken, Reason, Unlink, Yes, adds}
+use Rattle.protocol.specs.Deliver.{addVerdict, dropVerdict, inItsPlace, isExactly, ofObject, placeVerdict, unlessFull, verdictOf}
+use Rattle.protocol.specs.Elements.{AddsIt, Backpointer, BackpointersFull, Create, DropsIt, Kind, Link, Message, No, NoBecause, ObjectIdle, ObjectInUse, PlaceTaken, Reason, SaysOnly, Unlink, Verdict, Yes, adds}
 use Rattle.lists.proofs.Tests.{byTest, no-true}
 
 -- a request from p that is x, at a partition with the back-pointers bs
 module _ (bs : List Backpointer) (p : ℕ) (x : Message) where
   pub data Judged : Kind → Verdict → Type 0 where
     placeOwn : {k : Kind} → adds k ≡ true → (y : Backpointer) (ys : List Backpointer) → keep (inItsPlace p x) bs ≡ y ∷ ys
-        → eqb (y .number) (x .number) ≡ true → Judged k (saysOnly Yes)
+        → eqb (y .number) (x .number) ≡ true → Judged k (SaysOnly Yes)
     placeOther : {k : Kind} → adds k ≡ true → (y : Backpointer) (ys : List Backpointer) → keep (inItsPlace p x) bs ≡ y ∷ ys
-        → eqb (y .number) (x .number) ≡ false → Judged k (saysOnly (NoBecause PlaceTaken))
-    refusing : {k : Kind} → adds k ≡ true → keep (inItsPlace p x) bs ≡ [] → (why : Reason) → Judged k (saysOnly (NoBecause why))
-    adding : {k : Kind} → adds k ≡ true → keep (inItsPlace p x) bs ≡ [] → length bs < 64 → Judged k addsIt
-    missing : {k : Kind} → adds k ≡ false → keep (isExactly p x) bs ≡ [] → Judged k (saysOnly No)
-    dropping : {k : Kind} → adds k ≡ false → Judged k dropsIt
+        → eqb (y .number) (x .number) ≡ false → Judged k (SaysOnly (NoBecause PlaceTaken))
+    refusing : {k : Kind} → adds k ≡ true → keep (inItsPlace p x) bs ≡ [] → (why : Reason) → Judged k (SaysOnly (NoBecause why))
+    adding : {k : Kind} → adds k ≡ true → keep (inItsPlace p x) bs ≡ [] → length bs < 64 → Judged k AddsIt
+    missing : {k : Kind} → adds k ≡ false → keep (isExactly p x) bs ≡ [] → Judged k (SaysOnly No)
+    dropping : {k : Kind} → adds k ≡ false → Judged k DropsIt
 
   full-judged : (k : Kind) → adds k ≡ true → keep (inItsPlace p x) bs ≡ [] → (full : Bool) → leb 64 (length bs) ≡ full → Judged k (unlessFull full)
   full-judged k a e true f = refusing a e BackpointersFull

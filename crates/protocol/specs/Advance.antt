@@ -4,36 +4,31 @@ use mathlib.Core.List.{List, [], _∷_}
 use Prim.Native.Nat.{ℕ}
 use Rattle.lists.specs.Lists.{isSome, keep}
 use Rattle.protocol.specs.Answers.{Outcome, accept, check, refuse}
-use Rattle.protocol.specs.Elements.{Because, Cleared, Create, Done, Down, Held, Kind, Link, NameTaken, NoRecord, None, OutOfOrder, OutOfRange, Ready, Record, RecordSent, Refusal, Refused, Reply, Request, Sent, Stage, TowardsDown, Unlink}
+use Rattle.protocol.specs.Elements.{Because, Cleared, Closes, Create, Done, Down, Enters, Held, Kind, Link, NameTaken, Next, NoRecord, None, OutOfOrder, OutOfRange, Ready, Record, RecordSent, Refused, Request, Sends, Sent, Stage, Stays, TakesOut, TowardsDown, Turns, Unlink}
 use Rattle.protocol.specs.Tables.{Model, Partition, closeRecord, enterName, entryBears, entryOf, isPartition, messageOf, partition, recordBears, send, setStage, standsUnder, takeOutName, turnRecord}
-
-pub data Next : Type 0 where
-  closes : Reply → Next
-  sends enters turns takesOut : Next
-  stays : Refusal → Next
 
 -- Of a link or create, by its stage, whether an entry bears its number and whether its name is taken: "if an entry bears
 -- the number, close the record; else ready sends the request …; held enters the name … if nothing stands under it in that
 -- directory, else turns the record …; refused closes it with its reason as reply". A stage of the other kinds is out of order.
 abbrev pub nextToAdd : Stage → Bool → Bool → Next
-nextToAdd Ready true taken = closes None
-nextToAdd Held true taken = closes None
-nextToAdd (Refused why) true taken = closes None
-nextToAdd Ready false taken = sends
-nextToAdd Held false false = enters
-nextToAdd Held false true = turns
-nextToAdd (Refused why) false taken = closes (Because why)
-nextToAdd Sent entered taken = stays RecordSent
-nextToAdd Cleared entered taken = stays OutOfOrder
+nextToAdd Ready true taken = Closes None
+nextToAdd Held true taken = Closes None
+nextToAdd (Refused why) true taken = Closes None
+nextToAdd Ready false taken = Sends
+nextToAdd Held false false = Enters
+nextToAdd Held false true = Turns
+nextToAdd (Refused why) false taken = Closes (Because why)
+nextToAdd Sent entered taken = Stays RecordSent
+nextToAdd Cleared entered taken = Stays OutOfOrder
 
 -- Of an unlink: "ready takes the entry out … if one bears the number, else sends the request …; cleared closes it"
 abbrev pub nextToRemove : Stage → Bool → Next
-nextToRemove Ready true = takesOut
-nextToRemove Ready false = sends
-nextToRemove Cleared entered = closes None
-nextToRemove Sent entered = stays RecordSent
-nextToRemove Held entered = stays OutOfOrder
-nextToRemove (Refused why) entered = stays OutOfOrder
+nextToRemove Ready true = TakesOut
+nextToRemove Ready false = Sends
+nextToRemove Cleared entered = Closes None
+nextToRemove Sent entered = Stays RecordSent
+nextToRemove Held entered = Stays OutOfOrder
+nextToRemove (Refused why) entered = Stays OutOfOrder
 
 abbrev pub nextOf : Kind → Stage → Bool → Bool → Next
 nextOf Link g entered taken = nextToAdd g entered taken
@@ -47,14 +42,14 @@ next x r =
 
 -- the step of partition p's record r
 unfoldable pub perform : Model → ℕ → Record → Next → Outcome
-perform m p r (closes reply) = accept (r .number) reply (closeRecord m p (r .number))
-perform m p r sends =
+perform m p r (Closes reply) = accept (r .number) reply (closeRecord m p (r .number))
+perform m p r Sends =
     check (partition m (r .partition) .up) TowardsDown m
     (accept (r .number) None (send (setStage m p (r .number) Sent) p (r .partition) (messageOf Request r)))
-perform m p r enters = accept (r .number) Done (enterName m p (entryOf r))
-perform m p r turns = accept (r .number) NameTaken (turnRecord m p (r .number))
-perform m p r takesOut = accept (r .number) Done (takeOutName m p (r .number))
-perform m p r (stays why) = refuse why m
+perform m p r Enters = accept (r .number) Done (enterName m p (entryOf r))
+perform m p r Turns = accept (r .number) NameTaken (turnRecord m p (r .number))
+perform m p r TakesOut = accept (r .number) Done (takeOutName m p (r .number))
+perform m p r (Stays why) = refuse why m
 
 abbrev pub advanceFound : Model → ℕ → List Record → Outcome
 advanceFound m p [] = refuse NoRecord m

@@ -7,7 +7,7 @@ use lib.ListN.{length}
 use Rattle.lists.specs.Lists.{keep, pick}
 use Rattle.protocol.specs.Answers.{Outcome, accept, check, refuse}
 use Rattle.protocol.specs.Bounds.{maxBackpointers}
-use Rattle.protocol.specs.Elements.{Backpointer, BackpointersFull, Body, Cleared, Create, Down, Held, Kind, Link, Message, No, NoBecause, None, ObjectIdle, ObjectInUse, OutOfRange, PlaceTaken, QueueEmpty, Ready, Refused, Request, Stage, Unlink, Yes}
+use Rattle.protocol.specs.Elements.{AddsIt, Backpointer, BackpointersFull, Body, Cleared, Create, Down, DropsIt, Held, Kind, Link, Message, No, NoBecause, None, ObjectIdle, ObjectInUse, OutOfRange, PlaceTaken, QueueEmpty, Ready, Refused, Request, SaysOnly, Stage, Unlink, Verdict, Yes}
 use Rattle.protocol.specs.Tables.{Model, Partition, addBackpointer, dropBackpointer, inPlace, isPartition, partition, queue, send, setQueue, setStage}
 
 -- ---- a request, at the object's partition: what it answers, and what it does before
@@ -26,32 +26,28 @@ isExactly s x b = eqb (b .number) (x .number) && inItsPlace s x b
 abbrev pub ofObject : ℕ → Backpointer → Bool
 ofObject o b = eqb (b .object) o
 
-pub data Verdict : Type 0 where
-  saysOnly : Body → Verdict
-  addsIt dropsIt : Verdict
-
 abbrev pub unlessFull : Bool → Verdict
-unlessFull true = saysOnly (NoBecause BackpointersFull)
-unlessFull false = addsIt
+unlessFull true = SaysOnly (NoBecause BackpointersFull)
+unlessFull false = AddsIt
 
 -- Nothing stands in the place of a request to add; by the back-pointers of its object: "link to an idle object: no with 4.
 -- Create of an object in use: no with 5. 64 back-pointers already: no with 6. Otherwise add it and say yes."
 abbrev pub addVerdict : Kind → List Backpointer → Bool → Verdict
-addVerdict Link [] full = saysOnly (NoBecause ObjectIdle)
+addVerdict Link [] full = SaysOnly (NoBecause ObjectIdle)
 addVerdict Link (b ∷ bs) full = unlessFull full
 addVerdict Create [] full = unlessFull full
-addVerdict Create (b ∷ bs) full = saysOnly (NoBecause ObjectInUse)
-addVerdict Unlink bs full = saysOnly No
+addVerdict Create (b ∷ bs) full = SaysOnly (NoBecause ObjectInUse)
+addVerdict Unlink bs full = SaysOnly No
 
 -- "if the object has a back-pointer with that parent, directory and name, yes when the numbers are equal, else no with 3"
 abbrev pub placeVerdict : Message → List Backpointer → Verdict → Verdict
 placeVerdict x [] otherwise = otherwise
-placeVerdict x (b ∷ bs) otherwise = pick (eqb (b .number) (x .number)) (saysOnly Yes) (saysOnly (NoBecause PlaceTaken))
+placeVerdict x (b ∷ bs) otherwise = pick (eqb (b .number) (x .number)) (SaysOnly Yes) (SaysOnly (NoBecause PlaceTaken))
 
 -- "A request to remove takes out exactly the back-pointer …, and says yes; else no."
 abbrev pub dropVerdict : List Backpointer → Verdict
-dropVerdict [] = saysOnly No
-dropVerdict (b ∷ bs) = dropsIt
+dropVerdict [] = SaysOnly No
+dropVerdict (b ∷ bs) = DropsIt
 
 abbrev pub toAdd : Kind → List Backpointer → ℕ → Message → Verdict
 toAdd k bs s x =
@@ -71,9 +67,9 @@ answerTo x b =
 
 -- "The answer is queued back."
 unfoldable pub carryOut : Model → ℕ → ℕ → Message → Verdict → Model
-carryOut m s r x (saysOnly b) = send m r s (answerTo x b)
-carryOut m s r x addsIt = send (addBackpointer m r (backpointerOf s x)) r s (answerTo x Yes)
-carryOut m s r x dropsIt = send (dropBackpointer m r (isExactly s x)) r s (answerTo x Yes)
+carryOut m s r x (SaysOnly b) = send m r s (answerTo x b)
+carryOut m s r x AddsIt = send (addBackpointer m r (backpointerOf s x)) r s (answerTo x Yes)
+carryOut m s r x DropsIt = send (dropBackpointer m r (isExactly s x)) r s (answerTo x Yes)
 
 -- ---- an answer, at the record's partition
 

@@ -19,6 +19,10 @@ pub use Rattle.protocol.specs.declared.Reply.{Reply}
 pub use Rattle.protocol.specs.declared.Reply.the-variants.{None, Done, NameTaken, Because}
 pub use Rattle.protocol.specs.declared.Refusal.{Refusal}
 pub use Rattle.protocol.specs.declared.Refusal.the-variants.{Accepted, OutOfRange, BadName, CutFromItself, Down, IsUp, NameExists, NameAbsent, RecordOpen, LogFull, EntriesFull, NumbersSpent, NoRecord, RecordSent, TowardsDown, QueueEmpty, OutOfOrder, EndsEarly, MarkNotAllowed, FieldOutOfRange, CountWrong, BytesAfterClose, RoomTooShort, NotUnderstood}
+pub use Rattle.protocol.specs.declared.Next.{Next}
+pub use Rattle.protocol.specs.declared.Next.the-variants.{Closes, Sends, Enters, Turns, TakesOut, Stays}
+pub use Rattle.protocol.specs.declared.Verdict.{Verdict}
+pub use Rattle.protocol.specs.declared.Verdict.the-variants.{SaysOnly, AddsIt, DropsIt}
 pub use Rattle.protocol.specs.declared.Answer.{Answer}
 pub use Rattle.protocol.specs.declared.Tally.{Tally}
 

@@ -79,6 +79,23 @@ pub enum Reply {
     Because(Reason),
 }
 
+// The next step of an open record.
+pub enum Next {
+    Closes(Reply),
+    Sends,
+    Enters,
+    Turns,
+    TakesOut,
+    Stays(Refusal),
+}
+
+// What the object's partition does with a request: it only says something, or says yes and adds or drops the back-pointer.
+pub enum Verdict {
+    SaysOnly(Body),
+    AddsIt,
+    DropsIt,
+}
+
 // Why a call is refused: 0, accepted, to 23, in the order of document 01's table.
 pub enum Refusal {
     Accepted,
