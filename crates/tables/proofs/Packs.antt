@@ -31,8 +31,9 @@ use Rattle.tables.specs.declared.Partition.{Partition}
 use Rattle.tables.specs.declared.Queue.{Queue}
 use Rattle.tables.specs.declared.Records.{Records}
 use Rattle.tables.specs.declared.Tables.{Tables}
+use Rattle.lists.proofs.Alls.{all-past}
 use Rattle.lists.proofs.Fills.{pad-of, take-pad}
-use Rattle.lists.proofs.Images.{all-equal, all-past, back-again, there-and-back}
+use Rattle.lists.proofs.Images.{all-equal, back-again, there-and-back}
 use Rattle.lists.proofs.Places.{all-at}
 use Rattle.lists.proofs.Tests.{and-left, and-right, both-true, every-at, no-true, not-false}
 use Rattle.lists.proofs.Tidies.{tidy-count, tidy-length, tidy-pad, tidy-rest}

@@ -2,17 +2,17 @@ use Prim.Native.Nat.{_-_, _≤_}
 use borrow.Author.Needs.{needs}
 use Rattle.lists.specs.Lists.{all}
 use Rattle.tables.specs.View.{entriesOf}
-use Rattle.order.specs.Clauses.{entryAmong}
+use Rattle.order.specs.Clauses.{entryFine}
 use Rattle.lists.proofs.Loops.{Testing, alls}
 use Rattle.tables.proofs.Known.{entries-fit}
-use Rattle.order.proofs.partition.entries_in_range.Statement.{statement}
-use Rattle.order.proofs.partition.entries_in_range.Tie as tie
+use Rattle.order.proofs.partition.each_entry_in_order.Statement.{statement}
+use Rattle.order.proofs.partition.each_entry_in_order.Tie as tie
 
 abbrev Inv-loop : tie.InvT-loop
-Inv-loop n x count i₀ i = (i ≤ count) × Testing (all (entryAmong n) (entriesOf x)) (entryAmong n) (x .items) count i
+Inv-loop n last x count i₀ i = (i ≤ count) × Testing (all (entryFine n last) (entriesOf x)) (entryFine n last) (x .items) count i
 
 abbrev μ-loop : tie.MeasureT-loop
-μ-loop n x count i₀ i = count - i
+μ-loop n last x count i₀ i = count - i
 
 loop-holds : tie.Need-loop-holds Inv-loop μ-loop
 loop-holds c = search (alls, entries-fit, needs)
@@ -23,8 +23,8 @@ mul-item c = search (alls, entries-fit, needs)
 element-copy-out-item : tie.Need-element-copy-out-item Inv-loop μ-loop
 element-copy-out-item c = search (alls, entries-fit, needs)
 
-entry-in-range-requires : tie.Need-entry-in-range-requires Inv-loop μ-loop
-entry-in-range-requires c κs = search (alls, entries-fit, needs)
+entry-in-order-requires : tie.Need-entry-in-order-requires Inv-loop μ-loop
+entry-in-order-requires c κs = search (alls, entries-fit, needs)
 
 add-i : tie.Need-add-i Inv-loop μ-loop
 add-i c = search (alls, entries-fit, needs)
@@ -41,8 +41,8 @@ returns c = search (alls, entries-fit, needs)
 returns-2 : tie.Need-returns-2 Inv-loop μ-loop
 returns-2 c = search (alls, entries-fit, needs)
 
-pub entries-in-range-spec : {M : Type 1} → statement M
-entries-in-range-spec =
+pub each-entry-in-order-spec : {M : Type 1} → statement M
+each-entry-in-order-spec =
     tie.close
     (tie.spec
     Inv-loop
@@ -50,7 +50,7 @@ entries-in-range-spec =
     loop-holds
     mul-item
     element-copy-out-item
-    entry-in-range-requires
+    entry-in-order-requires
     add-i
     loop-less
     loop-again

@@ -2,17 +2,17 @@ use Prim.Native.Nat.{_-_, _≤_}
 use borrow.Author.Needs.{needs}
 use Rattle.lists.specs.Lists.{all}
 use Rattle.tables.specs.View.{backpointersOf}
-use Rattle.order.specs.Clauses.{backpointerAmong}
+use Rattle.order.specs.Clauses.{backpointerFine}
 use Rattle.lists.proofs.Loops.{Testing, alls}
 use Rattle.tables.proofs.Known.{backpointers-fit}
-use Rattle.order.proofs.partition.backpointers_in_range.Statement.{statement}
-use Rattle.order.proofs.partition.backpointers_in_range.Tie as tie
+use Rattle.order.proofs.partition.each_backpointer_in_order.Statement.{statement}
+use Rattle.order.proofs.partition.each_backpointer_in_order.Tie as tie
 
 abbrev Inv-loop : tie.InvT-loop
-Inv-loop n x count i₀ i = (i ≤ count) × Testing (all (backpointerAmong n) (backpointersOf x)) (backpointerAmong n) (x .items) count i
+Inv-loop n lasts x count i₀ i = (i ≤ count) × Testing (all (backpointerFine n lasts) (backpointersOf x)) (backpointerFine n lasts) (x .items) count i
 
 abbrev μ-loop : tie.MeasureT-loop
-μ-loop n x count i₀ i = count - i
+μ-loop n lasts x count i₀ i = count - i
 
 loop-holds : tie.Need-loop-holds Inv-loop μ-loop
 loop-holds c = search (alls, backpointers-fit, needs)
@@ -23,8 +23,8 @@ mul-item c = search (alls, backpointers-fit, needs)
 element-copy-out-item : tie.Need-element-copy-out-item Inv-loop μ-loop
 element-copy-out-item c = search (alls, backpointers-fit, needs)
 
-backpointer-in-range-requires : tie.Need-backpointer-in-range-requires Inv-loop μ-loop
-backpointer-in-range-requires c κs = search (alls, backpointers-fit, needs)
+backpointer-in-order-requires : tie.Need-backpointer-in-order-requires Inv-loop μ-loop
+backpointer-in-order-requires c κs = search (alls, backpointers-fit, needs)
 
 add-i : tie.Need-add-i Inv-loop μ-loop
 add-i c = search (alls, backpointers-fit, needs)
@@ -41,8 +41,8 @@ returns c = search (alls, backpointers-fit, needs)
 returns-2 : tie.Need-returns-2 Inv-loop μ-loop
 returns-2 c = search (alls, backpointers-fit, needs)
 
-pub backpointers-in-range-spec : {M : Type 1} → statement M
-backpointers-in-range-spec =
+pub each-backpointer-in-order-spec : {M : Type 1} → statement M
+each-backpointer-in-order-spec =
     tie.close
     (tie.spec
     Inv-loop
@@ -50,7 +50,7 @@ backpointers-in-range-spec =
     loop-holds
     mul-item
     element-copy-out-item
-    backpointer-in-range-requires
+    backpointer-in-order-requires
     add-i
     loop-less
     loop-again
