@@ -16,3 +16,4 @@ pub mod Arrays
 pub mod Finds
 pub mod Images
 pub mod Alls
+pub mod Gaps
