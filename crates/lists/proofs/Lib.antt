@@ -17,3 +17,4 @@ pub mod Finds
 pub mod Images
 pub mod Alls
 pub mod Gaps
+pub mod Repeats

@@ -21,7 +21,6 @@ use Rattle.lists.proofs.Downs.{Down}
 use Rattle.lists.proofs.Images.{getD-past}
 use Rattle.lists.proofs.Tests.{_also_, and-left, and-right, below-at, below-true, bool-same, both-true, byTest, done, every-at, every-of}
 use Rattle.lists.proofs.Tidies.{tidy-count}
-use Rattle.protocol.proofs.Look.{at}
 use Rattle.tables.proofs.Packs.{Shaped, shaped-all}
 use Rattle.tables.proofs.Views.{count-view, partition-there, partition-view, past-view, queue-view, queues-view}
 use Rattle.order.proofs.Laws.{pair-at, place-shaped}

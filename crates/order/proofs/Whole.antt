@@ -26,7 +26,6 @@ use Rattle.order.specs.Clauses.{backpointerAmong, backpointerGiven, back
 use Rattle.lists.proofs.Alls.{all-both, all-first, all-second}
 use Rattle.lists.proofs.Members.{all-get, all-true}
 use Rattle.lists.proofs.Tests.{_also_, and-left, and-right, below-at, below-true, both-true, byTest, done, eqb-same, every-at, every-of, or-else, or-right}
-use Rattle.protocol.proofs.Look.{at}
 use Rattle.tables.proofs.Views.{past-view, ranged}
 use Rattle.order.proofs.Laws.{fine-shaped}
 use Rattle.protocol.specs.Tables.{Partition as Part, Model, partition, queue, partitionCount, isPartition, claimed, noPartition as noPart}

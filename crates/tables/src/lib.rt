@@ -5,6 +5,7 @@ use protocol::Message;
 use protocol::Record;
 
 pub mod elements;
+pub mod fresh;
 pub mod reads;
 pub mod writes;
 
