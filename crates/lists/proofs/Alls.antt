@@ -1,12 +1,12 @@
--- Tests that all elements of a list pass: two together, and those from a place on.
+-- Tests that all elements of a list pass: two together, those from a place on, those of an image and of a list that is filled up.
 use mathlib.Core.Bool.{Bool, _&&_, true}
-use mathlib.Core.List.{List, [], _∷_}
+use mathlib.Core.List.{List, [], _++_, _∷_, map}
 use mathlib.Core.Path.{_≡_, refl}
 use Prim.Native.Nat.{_+_, _-_, _<_, _≤_, suc, zero, ℕ}
 use native.Mathlib.Omega.{arith}
-use lib.ListN.{drop, getD, length, length-drop}
+use lib.ListN.{drop, getD, length, length-drop, replicate}
 use lib.Seq.{getD-drop}
-use Rattle.lists.specs.Lists.{all}
+use Rattle.lists.specs.Lists.{all, pad}
 use Rattle.lists.proofs.Members.{all-get, all-true}
 use Rattle.lists.proofs.Places.{all-at}
 use Rattle.lists.proofs.Tests.{and-left, and-right, both-true}
@@ -34,3 +34,25 @@ past-all f zero [] d h = refl
 past-all f (suc n) [] d h = refl
 past-all f zero (x ∷ l) d h = both-true (h 0 (omega arith) (omega arith)) (past-all f zero l d (λ i a b. h (suc i) (omega arith) (omega arith)))
 past-all f (suc n) (x ∷ l) d h = past-all f n l d (λ i a b. h (suc i) (omega arith) (omega arith))
+
+-- an image, and a list that is filled up
+module _ {A B : Type 0} (f : B → Bool) (g : A → B) where
+  pub all-map : (d : A) (l : List A) → ((i : ℕ) → i < length l → f (g (getD l i d)) ≡ true) → all f (map g l) ≡ true
+  unfolding all
+  all-map d [] h = refl
+  all-map d (x ∷ l) h = both-true (h 0 (omega arith)) (all-map d l (λ i k. h (suc i) (omega arith)))
+
+pub all-pad : {A : Type 0} (f : A → Bool) (N : ℕ) (z : A) (l : List A) → all f l ≡ true → f z ≡ true → all f (pad N z l) ≡ true
+unfolding pad all
+all-pad f N z l h e = go l h
+  where
+    rest : (k : ℕ) → all f (replicate k z) ≡ true
+    rest zero = refl
+    rest (suc k) = both-true e (rest k)
+
+    front : (l : List _) (k : ℕ) → all f l ≡ true → all f (l ++ replicate k z) ≡ true
+    front [] k h = rest k
+    front (x ∷ l) k h = both-true (and-left (f x) (all f l) h) (front l k (and-right (f x) (all f l) h))
+
+    go : (l : List _) → all f l ≡ true → all f (l ++ replicate (N - length l) z) ≡ true
+    go l h = front l (N - length l) h

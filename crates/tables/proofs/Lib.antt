@@ -4,3 +4,4 @@ pub mod Views
 pub mod Rooms
 pub mod Written
 pub mod Opened
+pub mod Shapes
