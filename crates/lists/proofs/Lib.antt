@@ -15,3 +15,6 @@ pub mod Stores
 pub mod Arrays
 pub mod Finds
 pub mod Images
+pub mod Gaps
+pub mod Alls
+pub mod Repeats

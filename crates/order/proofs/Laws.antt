@@ -4,11 +4,11 @@ use mathlib.Core.List.{List, [], _∷_}
 use mathlib.Core.Path.{_∙_, _≡_, refl, sym}
 use Prim.Native.Nat.{_%_, _*_, _+_, _/_, _<_, _≤_, suc, zero, ℕ}
 use native.Mathlib.Omega.{arith}
-use lib.Dec.{eqb, leb}
+use lib.Dec.{eqb, leb, ltb}
 use lib.ListN.{getD, length, take}
 use borrow.Author.Tests.{eq-eqb, eqb-false, eqb-true, le-leb, le-ltb, lt-leb, lt-ltb, ne-eqb}
-use Rattle.lists.specs.Lists.{any, every, isNone, keep}
-use Rattle.protocol.specs.Bounds.{maxEntries, maxMessages, maxPartitions, maxRecords, queueCount}
+use Rattle.lists.specs.Lists.{any, below, every, isNone, keep, pick}
+use Rattle.protocol.specs.Bounds.{maxEntries, maxPartitions, maxRecords}
 use Rattle.protocol.specs.Elements.{bodyFits, isRequest, isSent}
 use Rattle.protocol.specs.Order.{isAnswerTo, isRequestOf, sentAs}
 use Rattle.protocol.specs.Tables.{unentered}
@@ -16,13 +16,18 @@ use Rattle.protocol.specs.declared.Backpointer.{Backpointer}
 use Rattle.protocol.specs.declared.Entry.{Entry}
 use Rattle.protocol.specs.declared.Message.{Message}
 use Rattle.protocol.specs.declared.Record.{Record}
-use Rattle.tables.specs.View.{Ranged, absent, messagesOf, noPartition, noQueue, partitionAt, queueAt, recordsOf, shapedPartition, viewPartition}
+use Rattle.tables.specs.Slots.{freeEntry, freeRecord}
+use Rattle.tables.specs.View.{absent, noPartition, partitionAt, queueAt, recordsOf, shapedPartition}
+use Rattle.tables.specs.declared.Entries.{Entries}
 use Rattle.tables.specs.declared.Partition.{Partition}
-use Rattle.tables.specs.declared.Queue.{Queue}
+use Rattle.tables.specs.declared.Records.{Records}
 use Rattle.tables.specs.declared.Tables.{Tables}
-use Rattle.order.specs.Clauses.{RangedPartitions, RangedQueues, backpointerGiven, given, lastsOf, messageFine, pairAt, pairFine, partitionFine, placeAt, placeFine, recordAnswered, roomIn}
+use Rattle.order.specs.Clauses.{backpointerGiven, backpointersFine, entriesFine, given, lastsOf, messageFine, pairAt, pairFine, partitionFine, partitionsFine, placeAt, placeFine, recordAnswered, recordsFine, roomIn}
+use Rattle.lists.proofs.Chains.{every-gt, every-last, every-le}
+use Rattle.lists.proofs.Downs.{Down}
 use Rattle.lists.proofs.Images.{getD-past}
-use Rattle.lists.proofs.Tests.{and-left, and-right, byTest, no-true, not-false, or-else}
+use Rattle.lists.proofs.Tests.{_also_, and-left, and-right, below-at, byTest, done, every-at, every-of, no-true, not-false, or-else}
+use Rattle.lists.proofs.Tidies.{tidy-count}
 use Rattle.protocol.proofs.Changes.{sent}
 use Rattle.tables.proofs.Rooms.{room-easy}
 use Rattle.tables.proofs.Views.{ranged}
@@ -141,46 +146,74 @@ module _ {A : Type 0} (up : Bool) (n : ℕ) (xs : List A) (bs : List Bool) (fits
 
 pub ruleset quiets = (down-talks, both-up)
 
+-- ---- one partition: its lists have passed, so their counts are within their bounds
+pub entries-within : (n last : ℕ) (x : Entries) (b : Bool) → b ≡ entriesFine n last x → b ≡ true → x .count ≤ maxEntries
+unfolding entriesFine
+entries-within n last x b e z = tidy-count maxEntries freeEntry (x .count) (x .items) (every-at _ (sym e ∙ z) 0)
+
+pub records-within : (n last : ℕ) (x : Records) (b : Bool) → b ≡ recordsFine n last x → b ≡ true → x .count ≤ maxRecords
+unfolding recordsFine
+records-within n last x b e z = tidy-count maxRecords freeRecord (x .count) (x .items) (every-at _ (sym e ∙ z) 0)
+
+pub fine-shaped : (n : ℕ) (lasts : List ℕ) (p : Partition) → partitionFine n lasts p ≡ true → shapedPartition p ≡ true
+unfolding partitionFine entriesFine backpointersFine recordsFine shapedPartition
+fine-shaped n lasts p h = every-of _ (every-at _ (every-at _ h 0) 0 also every-at _ (every-at _ h 1) 0 also every-at _ (every-at _ h 2) 0 also done)
+
 -- ---- a place of the partitions
-module _ (n : ℕ) (lasts : List ℕ) (a : ℕ) (p : Partition) (b : Bool) (e : b ≡ shapedPartition p) where
-  pub place-unshaped : b ≡ false → false ≡ placeFine n lasts a p
+module _ (n : ℕ) (lasts : List ℕ) (a : ℕ) (p : Partition) where
+  pub place-there : a < n → (r : Bool) → r ≡ partitionFine n lasts p → r ≡ placeFine n lasts a p
   unfolding placeFine
-  place-unshaped z = rw (← e, z)
+  place-there h r t = rw (lt-ltb a n h) t
 
-  pub place-there : b ≡ true → a < n → (r : Bool) → r ≡ partitionFine n lasts (viewPartition p) → r ≡ placeFine n lasts a p
+  pub place-past : n ≤ a → (b c : Bool) → b ≡ shapedPartition p → c ≡ absent p → (b && c) ≡ placeFine n lasts a p
   unfolding placeFine
-  place-there z h r t = rw (← e, z, lt-ltb a n h) t
+  place-past h b c e f = rw (le-ltb a n h, e, f)
 
-  pub place-past : b ≡ true → n ≤ a → (r : Bool) → r ≡ absent p → r ≡ placeFine n lasts a p
-  unfolding placeFine
-  place-past z h r t = rw (← e, z, le-ltb a n h) t
+pub ruleset places = (place-there, place-past)
 
-  pub place-ranged : b ≡ true → Ranged p
-  place-ranged z = ranged p (sym e ∙ z)
+pub place-at : (n : ℕ) (ps : List Partition) (a : ℕ) (r : Bool) → r ≡ placeFine n (lastsOf ps) a (getD ps a noPartition) → r ≡ placeAt n ps a
+unfolding placeAt
+place-at n ps a r h = h
 
-pub ruleset places = (place-unshaped, place-there, place-past, place-ranged)
+pub pair-at : (t : Tables) (k : ℕ) (r : Bool)
+    → r
+    ≡ pairFine (partitionAt t (k / maxPartitions) .up && partitionAt t (k % maxPartitions) .up)
+    (recordsOf (partitionAt t (k / maxPartitions) .records))
+    (recordsOf (partitionAt t (k % maxPartitions) .records))
+    (k / maxPartitions)
+    (k % maxPartitions)
+    (queueAt t k)
+    (queueAt t (k % maxPartitions * maxPartitions + k / maxPartitions))
+    → r ≡ pairAt t k
+unfolding pairAt
+pair-at t k r h = h
 
-module _ (t : Tables) where
-  pub place-at : (a : ℕ) (ls : List ℕ) → ls ≡ lastsOf t → (r : Bool) → r ≡ placeFine (t .count) ls a (partitionAt t a) → r ≡ placeAt t a
-  unfolding placeAt
-  place-at a ls e r h = rw e at h
+pub place-shaped : (n : ℕ) (lasts : List ℕ) (a : ℕ) (p : Partition) → placeFine n lasts a p ≡ true → shapedPartition p ≡ true
+unfolding placeFine
+place-shaped n lasts a p h = go (ltb a n) h
+  where
+    go : (c : Bool) → pick c (partitionFine n lasts p) (shapedPartition p && absent p) ≡ true → shapedPartition p ≡ true
+    go true f = fine-shaped n lasts p f
+    go false f = and-left _ _ f
 
-  pub pair-at : (k : ℕ) (r : Bool)
-      → r
-      ≡ pairFine (partitionAt t (k / maxPartitions) .up && partitionAt t (k % maxPartitions) .up)
-      (recordsOf (partitionAt t (k / maxPartitions) .records))
-      (recordsOf (partitionAt t (k % maxPartitions) .records))
-      (k / maxPartitions)
-      (k % maxPartitions)
-      (messagesOf (queueAt t k))
-      (messagesOf (queueAt t (k % maxPartitions * maxPartitions + k / maxPartitions)))
-      → r ≡ pairAt t k
-  unfolding pairAt
-  pair-at k r h = h
+-- once the partitions have passed, their records are within their bound
+pub records-at : (n : ℕ) (ps : List Partition) (i : ℕ) (b : Bool) → b ≡ partitionsFine n ps → b ≡ true → i < maxPartitions → getD ps i noPartition .records .count ≤ maxRecords
+unfolding partitionsFine placeAt
+records-at n ps i b e y h =
+    ranged (getD ps i noPartition) (place-shaped n (lastsOf ps) i (getD ps i noPartition) (below-at maxPartitions (placeAt n ps) (every-at _ (sym e ∙ y) 2) i h)) .records
 
--- the goal shows the list and the place, so that a search finds them
-pub records-at : (ps : List Partition) (i : ℕ) → RangedPartitions ps → i < maxPartitions → getD ps i noPartition .records .count ≤ maxRecords
-records-at ps i r h = r .at i h .records
+-- the loop over the places, at the end of a list of tests
+module _ (n : ℕ) (ps : List Partition) where
+  pub places-few : n < 1 → false ≡ partitionsFine n ps
+  unfolding partitionsFine
+  places-few h = every-gt 1 n _ h
 
-pub messages-at : (qs : List Queue) (k : ℕ) → RangedQueues qs → k < queueCount → getD qs k noQueue .count ≤ maxMessages
-messages-at qs k r h = r .at k h
+  pub places-many : 1 ≤ n → maxPartitions < n → false ≡ partitionsFine n ps
+  unfolding partitionsFine
+  places-many g h = every-le 1 n _ false g (every-gt n maxPartitions _ h)
+
+  pub places-start : 1 ≤ n → n ≤ maxPartitions → Down (partitionsFine n ps) (placeAt n ps) maxPartitions
+  unfolding partitionsFine
+  places-start g h = record { left = sym (every-le 1 n _ _ g (every-le n maxPartitions _ _ h (every-last (below maxPartitions (placeAt n ps)) _ refl))) }
+
+pub ruleset partitions = (places-few, places-many, places-start, place-at)

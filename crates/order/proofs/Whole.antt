@@ -6,6 +6,7 @@ use Prim.Native.Nat.{_+_, _<_, _≤_, ℕ}
 use native.Mathlib.Omega.{arith}
 use lib.Dec.{eqb, leb, ltb}
 use lib.ListN.{getD, length}
+use lib.Seq.{length-take-le}
 use borrow.Author.Tests.{eq-eqb, eqb-true, le-leb, leb-true, ltb-false, ltb-true}
 use Rattle.lists.specs.Lists.{all, any, below, isNone, keep, one, pick}
 use Rattle.protocol.specs.Bounds.{largestNumber, maxBackpointers, maxEntries, maxMessages, maxPartitions, maxRecords, queueCount}
@@ -15,12 +16,18 @@ use Rattle.protocol.specs.Order.{O1, O2, O3, O4, O5, O6, O7, allReady, backpoin
 use Rattle.protocol.specs.declared.Backpointer.{Backpointer}
 use Rattle.protocol.specs.declared.Body.{Body}
 use Rattle.protocol.specs.declared.Body.the-variants.{No, NoBecause, Request, Yes}
+use Rattle.protocol.specs.declared.Entry.{Entry}
 use Rattle.protocol.specs.declared.Message.{Message}
 use Rattle.protocol.specs.declared.Record.{Record}
+use Rattle.tables.specs.View.{SizedPartition, messagesOf, shapedPartition, shapedQueue, viewPartition}
+use Rattle.tables.specs.declared.Partition.{Partition}
+use Rattle.tables.specs.declared.Queue.{Queue}
 use Rattle.order.specs.Clauses.{backpointerAmong, backpointerGiven, backpointersFine, entriesFine, entryAmong, given, messageFine, pairFine, partitionFine, placedAmong, recordAmong, recordAnswered, recordsFine, roomIn}
+use Rattle.lists.proofs.Alls.{all-both, all-first, all-second}
 use Rattle.lists.proofs.Members.{all-get, all-true}
 use Rattle.lists.proofs.Tests.{_also_, and-left, and-right, below-at, below-true, both-true, byTest, done, eqb-same, every-at, every-of, or-else, or-right}
-use Rattle.tables.proofs.Views.{past-view}
+use Rattle.tables.proofs.Views.{past-view, ranged}
+use Rattle.order.proofs.Laws.{fine-shaped}
 use Rattle.protocol.specs.Tables.{Partition as Part, Model, partition, queue, partitionCount, isPartition, claimed, noPartition as noPart}
 
 -- ---- one partition
@@ -34,38 +41,56 @@ pub record PartitionOrder (m : Model) (x : Part) : Type 0 where
   pub room : roomKept x ≡ true
   pub ready : (x .up || allReady x) ≡ true
 
-pub record Within (x : Part) : Type 0 where
-  pub last : x .last ≤ largestNumber
-  pub entries : length (x .entries) ≤ maxEntries
-  pub backpointers : length (x .backpointers) ≤ maxBackpointers
-  pub records : length (x .records) ≤ maxRecords
+record Within (x : Part) : Type 0 where
+  last : x .last ≤ largestNumber
+  entries : length (x .entries) ≤ maxEntries
+  backpointers : length (x .backpointers) ≤ maxBackpointers
+  records : length (x .records) ≤ maxRecords
+
+within : (p : Partition) → SizedPartition p → shapedPartition p ≡ true → Within (viewPartition p)
+within p z h =
+    let r = ranged p h in
+    record {
+      last = z .last;
+      entries = rw (length-take-le (p .entries .count) (p .entries .items) (omega (arith, r .entries, z .entries))) (r .entries);
+      backpointers = rw (length-take-le (p .backpointers .count) (p .backpointers .items) (omega (arith, r .backpointers, z .backpointers))) (r .backpointers);
+      records = rw (length-take-le (p .records .count) (p .records .items) (omega (arith, r .records, z .records))) (r .records);
+    }
 
 module _ (m : Model) (ls : List ℕ) (same : (i : ℕ) → getD ls i 0 ≡ partition m i .last) where
   by-parent : _≡_ {A = Backpointer → Bool} (backpointerGiven ls) (λ b. givenBy (partition m (b .parent)) (b .number))
   unfolding backpointerGiven given givenBy
   by-parent = λ j b. leb 1 (b .number) && leb (b .number) (same (b .parent) j)
 
-  pub fine-of : (x : Part) → PartitionOrder m x → partitionFine (partitionCount m) ls x ≡ true
-  unfolding partitionFine entriesFine backpointersFine recordsFine roomIn claimed partitionInRange numbersGiven givenBy given entryAmong backpointerAmong recordAmong placedAmong inRange
-  fine-of x o =
+  -- the lists, where all that a clause asks for is known
+  pub fine-of : (p : Partition) → shapedPartition p ≡ true → PartitionOrder m (viewPartition p) → partitionFine (partitionCount m) ls p ≡ true
+  unfolding partitionFine entriesFine backpointersFine recordsFine shapedPartition roomIn claimed partitionInRange numbersGiven givenBy given entryAmong backpointerAmong recordAmong placedAmong inRange
+  fine-of p z o =
+      let x = viewPartition p in
       let a = every-at _ (o .range) in
       let g = every-at _ (o .given) in
+      let s = every-at _ z in
       let b : all (backpointerGiven ls) (x .backpointers) ≡ true = ap (λ (f : Backpointer → Bool). all f (x .backpointers)) by-parent ∙ g 2 in
       every-of _
-      (every-of _ (a 4 also g 0 also o .entries also done)
-      also every-of _ (a 5 also b also o .backpointers also done)
-      also every-of _ (a 6 also g 1 also o .records also done)
+      (every-of _ (s 0 also all-both (entryAmong (partitionCount m)) (λ (e : Entry). given (x .last) (e .number)) (x .entries) (a 4) (g 0) also o .entries also done)
+      also every-of _ (s 1 also all-both (backpointerAmong (partitionCount m)) (backpointerGiven ls) (x .backpointers) (a 5) b also o .backpointers also done)
+      also every-of _ (s 2 also all-both (recordAmong (partitionCount m)) (λ (r : Record). given (x .last) (r .number)) (x .records) (a 6) (g 1) also o .records also done)
       also o .room
       also o .ready
       also done)
 
-  pub order-of : (x : Part) → Within x → partitionFine (partitionCount m) ls x ≡ true → PartitionOrder m x
+  pub order-of : (p : Partition) → SizedPartition p → partitionFine (partitionCount m) ls p ≡ true → PartitionOrder m (viewPartition p)
   unfolding partitionFine entriesFine backpointersFine recordsFine roomIn claimed partitionInRange numbersGiven givenBy given entryAmong backpointerAmong recordAmong placedAmong inRange
-  order-of x w h =
+  order-of p z h =
+      let x = viewPartition p in
+      let n = partitionCount m in
       let a = every-at _ (every-at _ h 0) in
       let b = every-at _ (every-at _ h 1) in
       let c = every-at _ (every-at _ h 2) in
-      let g : all (λ (y : Backpointer). givenBy (partition m (y .parent)) (y .number)) (x .backpointers) ≡ true = ap (λ (f : Backpointer → Bool). all f (x .backpointers)) (sym by-parent) ∙ b 1 in
+      let w = within p z (fine-shaped n ls p h) in
+      let g : all (λ (y : Backpointer). givenBy (partition m (y .parent)) (y .number)) (x .backpointers) ≡ true =
+      ap (λ (f : Backpointer → Bool). all f (x .backpointers)) (sym by-parent) ∙ all-second (backpointerAmong n) (backpointerGiven ls) (x .backpointers) (b 1)
+      in
       record {
         range =
             every-of _
@@ -73,14 +98,19 @@ module _ (m : Model) (ls : List ℕ) (same : (i : ℕ) → getD ls i 0 ≡ parti
             also le-leb _ _ (w .entries)
             also le-leb _ _ (w .backpointers)
             also le-leb _ _ (w .records)
-            also a 0
-            also b 0
-            also c 0
+            also all-first (entryAmong n) (λ (e : Entry). given (x .last) (e .number)) (x .entries) (a 1)
+            also all-first (backpointerAmong n) (backpointerGiven ls) (x .backpointers) (b 1)
+            also all-first (recordAmong n) (λ (r : Record). given (x .last) (r .number)) (x .records) (c 1)
             also done);
         entries = a 2;
         records = c 2;
         backpointers = b 2;
-        given = every-of _ (a 1 also c 1 also g also done);
+        given =
+            every-of _
+            (all-second (entryAmong n) (λ (e : Entry). given (x .last) (e .number)) (x .entries) (a 1)
+            also all-second (recordAmong n) (λ (r : Record). given (x .last) (r .number)) (x .records) (c 1)
+            also g
+            also done);
         room = every-at _ h 3;
         ready = every-at _ h 4;
       }
@@ -91,10 +121,6 @@ pub record PairOrder (m : Model) (s r : ℕ) : Type 0 where
   pub quiet : (partition m s .up && partition m r .up || isNone (queue m s r)) ≡ true
   pub messages : all (hasRecord m s r) (queue m s r) ≡ true
   pub records : all (recordAnswered r (queue m s r) (queue m r s)) (partition m s .records) ≡ true
-
-abbrev pub pairTest : Model → ℕ → ℕ → Bool
-pairTest m s r =
-    pairFine (partition m s .up && partition m r .up) (partition m s .records) (partition m r .records) s r (queue m s r) (queue m r s)
 
 module _ (m : Model) (s r : ℕ) where
   by-body : _≡_ {A = Message → Bool} (hasRecord m s r) (messageFine (partition m s .records) (partition m r .records) s r)
@@ -107,17 +133,24 @@ module _ (m : Model) (s r : ℕ) where
       go x No = refl
       go x (NoBecause why) = refl
 
-  pub pair-test : PairOrder m s r → pairTest m s r ≡ true
-  unfolding pairFine
-  pair-test o =
-      let a : all (messageFine (partition m s .records) (partition m r .records) s r) (queue m s r) ≡ true = ap (λ (f : Message → Bool). all f (queue m s r)) (sym by-body) ∙ o .messages in
-      every-of _ (o .quiet also a also o .records also done)
+  -- stored, the queues are q and back
+  module _ (q back : Queue) (e : queue m s r ≡ messagesOf q) (f : queue m r s ≡ messagesOf back) where
+    abbrev PairTest : Type 0
+    PairTest = pairFine (partition m s .up && partition m r .up) (partition m s .records) (partition m r .records) s r q back ≡ true
 
-  pub pair-order : pairTest m s r ≡ true → PairOrder m s r
-  unfolding pairFine
-  pair-order h =
-      let a : all (hasRecord m s r) (queue m s r) ≡ true = ap (λ (f : Message → Bool). all f (queue m s r)) by-body ∙ every-at _ h 1 in
-      record { quiet = every-at _ h 0; messages = a; records = every-at _ h 2 }
+    pub pair-test : shapedQueue q ≡ true → back .count ≤ maxMessages → PairOrder m s r → PairTest
+    unfolding pairFine
+    pair-test y z o =
+        let a : all (messageFine (partition m s .records) (partition m r .records) s r) (messagesOf q) ≡ true = rw (← e) (ap (λ (g : Message → Bool). all g (queue m s r)) (sym by-body) ∙ o .messages) in
+        let u : (partition m s .up && partition m r .up || isNone (messagesOf q)) ≡ true = rw (← e) (o .quiet) in
+        let v : all (recordAnswered r (messagesOf q) (messagesOf back)) (partition m s .records) ≡ true = rw (← e, ← f) (o .records) in
+        every-of _ (y also le-leb _ _ z also u also a also v also done)
+
+    pub pair-order : PairTest → PairOrder m s r
+    unfolding pairFine
+    pair-order h =
+        let a : all (messageFine (partition m s .records) (partition m r .records) s r) (queue m s r) ≡ true = rw e (every-at _ h 3) in
+        record { quiet = rw e (every-at _ h 2); messages = ap (λ (g : Message → Bool). all g (queue m s r)) by-body ∙ a; records = rw (e, f) (every-at _ h 4) }
 
 -- a record has its one message, or has it in the queues of the pair that it belongs to
 one-answered : (m : Model) (s r : ℕ) (x : Record) → hasOneMessage m s x ≡ true → recordAnswered r (queue m s r) (queue m r s) x ≡ true

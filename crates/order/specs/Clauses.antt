@@ -2,21 +2,24 @@
 -- the code tests is said with them; that they are together document 01's order is proved (`proofs/Whole.antt`).
 use mathlib.Core.Bool.{Bool, _&&_, _||_, not}
 use mathlib.Core.List.{List, [], _∷_}
-use Prim.Native.Nat.{_%_, _*_, _+_, _/_, _<_, _≤_, ℕ}
+use Prim.Native.Nat.{_%_, _*_, _+_, _/_, ℕ}
 use lib.Dec.{eqb, leb, ltb}
 use lib.ListN.{getD, length}
-use Rattle.lists.specs.Lists.{all, any, apart, every, isNone, keep, pick}
+use Rattle.lists.specs.Lists.{all, any, apart, below, every, isNone, keep, pick}
 use Rattle.names.specs.Names.{goodName}
-use Rattle.protocol.specs.Bounds.{maxEntries, maxMessages, maxPartitions, queueCount}
+use Rattle.protocol.specs.Bounds.{maxEntries, maxMessages, maxPartitions}
 use Rattle.protocol.specs.Elements.{bodyFits, isReady, isRequest, isSent, stageFits}
 use Rattle.protocol.specs.Order.{backpointersClash, entriesClash, isAnswerTo, isRequestOf, recordsClash, sentAs}
 use Rattle.protocol.specs.declared.Backpointer.{Backpointer}
 use Rattle.protocol.specs.declared.Entry.{Entry}
 use Rattle.protocol.specs.declared.Message.{Message}
 use Rattle.protocol.specs.declared.Record.{Record}
-use Rattle.tables.specs.View.{Ranged, absent, messagesOf, noPartition, noQueue, partitionAt, queueAt, recordsOf, shapedPartition, viewPartition}
+use Rattle.tables.specs.View.{absent, backpointersOf, entriesOf, messagesOf, noPartition, partitionAt, queueAt, recordsOf, shapedBackpointers, shapedEntries, shapedPartition, shapedQueue, shapedRecords}
+use Rattle.tables.specs.declared.Backpointers.{Backpointers}
+use Rattle.tables.specs.declared.Entries.{Entries}
 use Rattle.tables.specs.declared.Partition.{Partition}
 use Rattle.tables.specs.declared.Queue.{Queue}
+use Rattle.tables.specs.declared.Records.{Records}
 use Rattle.tables.specs.declared.Tables.{Tables}
 use Rattle.protocol.specs.Tables.{Partition as Part, Model, isDirectory, isObject, unentered}
 
@@ -38,24 +41,28 @@ recordAmong n r = placedAmong n (r .directory) (r .partition) (r .object) && (go
 unfoldable pub given : ℕ → ℕ → Bool
 given last n = leb 1 n && leb n last
 
-abbrev pub entryGiven : ℕ → Entry → Bool
-entryGiven last e = given last (e .number)
-
-abbrev pub recordGiven : ℕ → Record → Bool
-recordGiven last r = given last (r .number)
-
 -- the last numbers of the partitions, one after the other
 unfoldable pub backpointerGiven : List ℕ → Backpointer → Bool
 backpointerGiven lasts b = given (getD lasts (b .parent) 0) (b .number)
 
-unfoldable pub entriesFine : ℕ → ℕ → List Entry → Bool
-entriesFine n last l = every (all (entryAmong n) l ∷ all (entryGiven last) l ∷ apart entriesClash l ∷ [])
+abbrev pub entryFine : ℕ → ℕ → Entry → Bool
+entryFine n last e = entryAmong n e && given last (e .number)
 
-unfoldable pub backpointersFine : ℕ → List ℕ → List Backpointer → Bool
-backpointersFine n lasts l = every (all (backpointerAmong n) l ∷ all (backpointerGiven lasts) l ∷ apart backpointersClash l ∷ [])
+abbrev pub backpointerFine : ℕ → List ℕ → Backpointer → Bool
+backpointerFine n lasts b = backpointerAmong n b && backpointerGiven lasts b
 
-unfoldable pub recordsFine : ℕ → ℕ → List Record → Bool
-recordsFine n last l = every (all (recordAmong n) l ∷ all (recordGiven last) l ∷ apart recordsClash l ∷ [])
+abbrev pub recordFine : ℕ → ℕ → Record → Bool
+recordFine n last r = recordAmong n r && given last (r .number)
+
+unfoldable pub entriesFine : ℕ → ℕ → Entries → Bool
+entriesFine n last x = every (shapedEntries x ∷ all (entryFine n last) (entriesOf x) ∷ apart entriesClash (entriesOf x) ∷ [])
+
+unfoldable pub backpointersFine : ℕ → List ℕ → Backpointers → Bool
+backpointersFine n lasts x =
+    every (shapedBackpointers x ∷ all (backpointerFine n lasts) (backpointersOf x) ∷ apart backpointersClash (backpointersOf x) ∷ [])
+
+unfoldable pub recordsFine : ℕ → ℕ → Records → Bool
+recordsFine n last x = every (shapedRecords x ∷ all (recordFine n last) (recordsOf x) ∷ apart recordsClash (recordsOf x) ∷ [])
 
 unfoldable pub roomIn : List Entry → List Record → Bool
 roomIn es rs = leb (length es + length (keep (unentered es) rs)) maxEntries
@@ -63,19 +70,19 @@ roomIn es rs = leb (length es + length (keep (unentered es) rs)) maxEntries
 abbrev pub readyRecord : Record → Bool
 readyRecord r = isReady (r .stage)
 
-unfoldable pub partitionFine : ℕ → List ℕ → Part → Bool
-partitionFine n lasts x =
+unfoldable pub partitionFine : ℕ → List ℕ → Partition → Bool
+partitionFine n lasts p =
     every
-    (entriesFine n (x .last) (x .entries)
-    ∷ backpointersFine n lasts (x .backpointers)
-    ∷ recordsFine n (x .last) (x .records)
-    ∷ roomIn (x .entries) (x .records)
-    ∷ (x .up || all readyRecord (x .records))
+    (entriesFine n (p .last) (p .entries)
+    ∷ backpointersFine n lasts (p .backpointers)
+    ∷ recordsFine n (p .last) (p .records)
+    ∷ roomIn (entriesOf (p .entries)) (recordsOf (p .records))
+    ∷ (p .up || all readyRecord (recordsOf (p .records)))
     ∷ [])
 
 -- place a of the partitions, where n are there
 unfoldable pub placeFine : ℕ → List ℕ → ℕ → Partition → Bool
-placeFine n lasts a p = shapedPartition p && pick (ltb a n) (partitionFine n lasts (viewPartition p)) (absent p)
+placeFine n lasts a p = pick (ltb a n) (partitionFine n lasts p) (shapedPartition p && absent p)
 
 -- ---- the queue from s to r, and the records that its messages are of: xs of partition s, ys of partition r
 
@@ -87,17 +94,28 @@ unfoldable pub recordAnswered : ℕ → List Message → List Message → Record
 recordAnswered r q back x =
     not (isSent (x .stage)) || (not (eqb (x .partition) r) || eqb (length (keep (isRequestOf x) q) + length (keep (isAnswerTo x) back)) 1)
 
-unfoldable pub pairFine : Bool → List Record → List Record → ℕ → ℕ → List Message → List Message → Bool
-pairFine up xs ys s r q back = every ((up || isNone q) ∷ all (messageFine xs ys s r) q ∷ all (recordAnswered r q back) xs ∷ [])
+unfoldable pub pairFine : Bool → List Record → List Record → ℕ → ℕ → Queue → Queue → Bool
+pairFine up xs ys s r q back =
+    every
+    (shapedQueue q
+    ∷ leb (back .count) maxMessages
+    ∷ (up || isNone (messagesOf q))
+    ∷ all (messageFine xs ys s r) (messagesOf q)
+    ∷ all (recordAnswered r (messagesOf q) (messagesOf back)) xs
+    ∷ [])
 
 -- ---- the whole tables
 
-abbrev pub lastsOf : Tables → List ℕ
-lastsOf t = partitionAt t 0 .last ∷ partitionAt t 1 .last ∷ partitionAt t 2 .last ∷ partitionAt t 3 .last ∷ []
+abbrev pub lastsOf : List Partition → List ℕ
+lastsOf ps = getD ps 0 noPartition .last ∷ getD ps 1 noPartition .last ∷ getD ps 2 noPartition .last ∷ getD ps 3 noPartition .last ∷ []
 
-unfoldable pub placeAt : Tables → ℕ → Bool
-placeAt t a = placeFine (t .count) (lastsOf t) a (partitionAt t a)
+unfoldable pub placeAt : ℕ → List Partition → ℕ → Bool
+placeAt n ps a = placeFine n (lastsOf ps) a (getD ps a noPartition)
 
+unfoldable pub partitionsFine : ℕ → List Partition → Bool
+partitionsFine n ps = every (leb 1 n ∷ leb n maxPartitions ∷ below maxPartitions (placeAt n ps) ∷ [])
+
+-- the pair whose queue stands at place k
 unfoldable pub pairAt : Tables → ℕ → Bool
 pairAt t k =
     pairFine (partitionAt t (k / maxPartitions) .up && partitionAt t (k % maxPartitions) .up)
@@ -105,12 +123,5 @@ pairAt t k =
     (recordsOf (partitionAt t (k % maxPartitions) .records))
     (k / maxPartitions)
     (k % maxPartitions)
-    (messagesOf (queueAt t k))
-    (messagesOf (queueAt t (k % maxPartitions * maxPartitions + k / maxPartitions)))
-
--- counts within bounds, of all partitions and queues
-pub record RangedPartitions (ps : List Partition) : Type 0 where
-  pub at : (i : ℕ) → i < maxPartitions → Ranged (getD ps i noPartition)
-
-pub record RangedQueues (qs : List Queue) : Type 0 where
-  pub at : (k : ℕ) → k < queueCount → getD qs k noQueue .count ≤ maxMessages
+    (queueAt t k)
+    (queueAt t (k % maxPartitions * maxPartitions + k / maxPartitions))

@@ -1,12 +1,9 @@
 // Whether the tables are in order, O1 to O7 of document 01, whatever they hold.
-ghost use Prim.Native.Nat.{_≤_, _<_};
 ghost use mathlib.Core.Bool.{_&&_};
 ghost use mathlib.Core.Path.{_≡_};
-ghost use Rattle.lists.specs.Lists.{below, all};
-ghost use Rattle.protocol.specs.Bounds.{maxPartitions, queueCount};
 ghost use Rattle.protocol.specs.Order.{inOrder};
-ghost use Rattle.tables.specs.View.{view, shaped, shapedQueue};
-ghost use Rattle.order.specs.Clauses.{placeFine, lastsOf, placeAt, pairAt, RangedPartitions, RangedQueues};
+ghost use Rattle.tables.specs.View.{view, shaped};
+ghost use Rattle.order.specs.Clauses.{placeFine, partitionsFine};
 use tables::MAX_PARTITIONS;
 use tables::Partition;
 use tables::QUEUES;
@@ -16,70 +13,52 @@ pub mod messages;
 pub mod partition;
 pub mod shape;
 
-// The last number that each partition gave.
-pub fn last_numbers(t: Tables) -> [u32; MAX_PARTITIONS]
-    ensures { λ r. ⌜ r ≡ lastsOf t ⌝ }
-{
-    let p = t.partitions[0];
-    let q = t.partitions[1];
-    let r = t.partitions[2];
-    let s = t.partitions[3];
-    let a = p.last;
-    let b = q.last;
-    let c = r.last;
-    let d = s.last;
-    [a, b, c, d]
-}
-
 // Whether a partition may stand at place a, where n are there.
 pub fn place_in_order(p: Partition, a: usize, n: usize, lasts: [u32; MAX_PARTITIONS]) -> bool
     ensures { λ r. ⌜ r ≡ placeFine n lasts a p ⌝ }
 {
-    if shape::partition_shaped(p) {} else {
-        return false;
-    }
     if a < n {
         return partition::partition_in_order(p, n, lasts);
     }
-    shape::is_absent(p)
+    let zero = shape::partition_shaped(p);
+    let unused = shape::is_absent(p);
+    zero & unused
 }
 
-pub fn partitions_in_order(t: Tables) -> bool
-    ensures { λ r. ⌜ r ≡ below maxPartitions (placeAt t) ⌝ }
+pub fn partitions_in_order(ps: [Partition; MAX_PARTITIONS], n: usize) -> bool
+    ensures { λ r. ⌜ r ≡ partitionsFine n ps ⌝ }
 {
-    let n = t.count;
-    let lasts = last_numbers(t);
+    if n < 1 {
+        return false;
+    }
+    if MAX_PARTITIONS < n {
+        return false;
+    }
+    let p = ps[0];
+    let q = ps[1];
+    let r = ps[2];
+    let s = ps[3];
+    let lasts = [p.last, q.last, r.last, s.last];
     let mut a: usize = MAX_PARTITIONS;
     while 0 < a {
         a -= 1;
-        let p = t.partitions[a];
-        if place_in_order(p, a, n, lasts) {} else {
+        let x = ps[a];
+        if place_in_order(x, a, n, lasts) {} else {
             return false;
         }
     }
     true
 }
 
-pub fn queues_shaped(t: Tables) -> bool
-    ensures { λ r. ⌜ r ≡ all shapedQueue (t .queues) ⌝ }
+// The loop goes over every ordered pair of partitions, of those that are not there too. It stands here, so that the tables, of
+// some twenty kilobytes, are handed on to nobody.
+pub fn in_order(t: Tables) -> bool
+    ensures { λ r. ⌜ r ≡ (shaped t && inOrder (view t)) ⌝ }
 {
-    let mut k: usize = 0;
-    while k < QUEUES {
-        let q = t.queues[k];
-        if shape::queue_shaped(q) {
-            k += 1;
-        } else {
-            return false;
-        }
+    let partitions = t.partitions;
+    if partitions_in_order(partitions, t.count) {} else {
+        return false;
     }
-    true
-}
-
-// Every ordered pair of partitions, of those that are not there too.
-pub fn queues_in_order(t: Tables) -> bool
-    requires { ⌜ RangedPartitions (t .partitions) × RangedQueues (t .queues) ⌝ }
-    ensures { λ r. ⌜ r ≡ below queueCount (pairAt t) ⌝ }
-{
     let mut k: usize = QUEUES;
     while 0 < k {
         k -= 1;
@@ -98,22 +77,4 @@ pub fn queues_in_order(t: Tables) -> bool
         }
     }
     true
-}
-
-pub fn in_order(t: Tables) -> bool
-    ensures { λ r. ⌜ r ≡ (shaped t && inOrder (view t)) ⌝ }
-{
-    if t.count < 1 {
-        return false;
-    }
-    if MAX_PARTITIONS < t.count {
-        return false;
-    }
-    if partitions_in_order(t) {} else {
-        return false;
-    }
-    if queues_shaped(t) {} else {
-        return false;
-    }
-    queues_in_order(t)
 }

@@ -8,8 +8,10 @@ ghost use Rattle.protocol.specs.Bounds.{maxRecords, maxMessages};
 ghost use Rattle.protocol.specs.Order.{matches, sentAs, isRequestOf, isAnswerTo};
 ghost use Rattle.tables.specs.View.{recordsOf, messagesOf};
 ghost use Rattle.order.specs.Clauses.{messageFine, recordAnswered, pairFine};
+use crate::shape;
 use protocol::Message;
 use protocol::Record;
+use tables::MAX_MESSAGES;
 use tables::Queue;
 use tables::Records;
 
@@ -186,11 +188,17 @@ pub fn pair_in_order(
     q: Queue,
     back: Queue,
 ) -> bool
-    requires { ⌜ (xs .count ≤ maxRecords) × (ys .count ≤ maxRecords) × (q .count ≤ maxMessages) × (back .count ≤ maxMessages) ⌝ }
-    ensures { λ a. ⌜ a ≡ pairFine up (recordsOf xs) (recordsOf ys) s r (messagesOf q) (messagesOf back) ⌝ }
+    requires { ⌜ (xs .count ≤ maxRecords) × (ys .count ≤ maxRecords) ⌝ }
+    ensures { λ a. ⌜ a ≡ pairFine up (recordsOf xs) (recordsOf ys) s r q back ⌝ }
 {
-    let some = q.count != 0;
-    if some & !up {
+    if shape::queue_shaped(q) {} else {
+        return false;
+    }
+    if MAX_MESSAGES < back.count {
+        return false;
+    }
+    let loud = (q.count != 0) & !up;
+    if loud {
         return false;
     }
     if messages_in_order(xs, ys, s, r, q) {} else {

@@ -1,11 +1,13 @@
-// O1 to O5 and the records' half of O7: what is asked of one partition, among so many.
+// O1 to O5 and the records' half of O7: what is asked of one partition, among so many. Each list is handed on as seldom as can be:
+// it is a kilobyte, and goes by value.
 ghost use Prim.Native.Nat.{_≤_};
 ghost use mathlib.Core.Path.{_≡_};
 ghost use Rattle.lists.specs.Lists.{all, apart};
 ghost use Rattle.protocol.specs.Bounds.{maxPartitions, maxEntries, maxBackpointers, maxRecords};
 ghost use Rattle.protocol.specs.Order.{entriesClash, backpointersClash, recordsClash};
-ghost use Rattle.tables.specs.View.{entriesOf, backpointersOf, recordsOf, viewPartition, Ranged};
-ghost use Rattle.order.specs.Clauses.{placedAmong, entryAmong, backpointerAmong, recordAmong, given, entryGiven, backpointerGiven, recordGiven, entriesFine, backpointersFine, recordsFine, roomIn, readyRecord, partitionFine};
+ghost use Rattle.tables.specs.View.{entriesOf, backpointersOf, recordsOf};
+ghost use Rattle.order.specs.Clauses.{placedAmong, entryAmong, backpointerAmong, recordAmong, given, backpointerGiven, entryFine, backpointerFine, recordFine, entriesFine, backpointersFine, recordsFine, roomIn, readyRecord, partitionFine};
+use crate::shape;
 use protocol::Backpointer;
 use protocol::Entry;
 use protocol::Record;
@@ -62,16 +64,21 @@ pub fn is_given(last: u32, number: u32) -> bool
     (1 <= number) & (number <= last)
 }
 
-pub fn entry_given(e: Entry, last: u32) -> bool
-    ensures { λ r. ⌜ r ≡ entryGiven last e ⌝ }
+// An entry's number was given by its own partition, and so was a record's.
+pub fn entry_in_order(e: Entry, n: usize, last: u32) -> bool
+    ensures { λ r. ⌜ r ≡ entryFine n last e ⌝ }
 {
-    is_given(last, e.number)
+    let fits = entry_in_range(e, n);
+    let numbered = is_given(last, e.number);
+    fits & numbered
 }
 
-pub fn record_given(r: Record, last: u32) -> bool
-    ensures { λ a. ⌜ a ≡ recordGiven last r ⌝ }
+pub fn record_in_order(r: Record, n: usize, last: u32) -> bool
+    ensures { λ a. ⌜ a ≡ recordFine n last r ⌝ }
 {
-    is_given(last, r.number)
+    let fits = record_in_range(r, n);
+    let numbered = is_given(last, r.number);
+    fits & numbered
 }
 
 // The giver of a back-pointer's number is its parent.
@@ -84,6 +91,14 @@ pub fn backpointer_given(b: Backpointer, lasts: [u32; MAX_PARTITIONS]) -> bool
     }
     let last = lasts[parent];
     is_given(last, b.number)
+}
+
+pub fn backpointer_in_order(b: Backpointer, n: usize, lasts: [u32; MAX_PARTITIONS]) -> bool
+    ensures { λ r. ⌜ r ≡ backpointerFine n lasts b ⌝ }
+{
+    let fits = backpointer_in_range(b, n);
+    let numbered = backpointer_given(b, lasts);
+    fits & numbered
 }
 
 // The numbers are compared first: they differ soonest.
@@ -104,18 +119,8 @@ pub fn entries_clash(a: Entry, b: Entry) -> bool
 pub fn backpointers_clash(a: Backpointer, b: Backpointer) -> bool
     ensures { λ r. ⌜ r ≡ backpointersClash a b ⌝ }
 {
-    if b.object != a.object {
-        return false;
-    }
-    if b.parent != a.parent {
-        return false;
-    }
-    if b.directory != a.directory {
-        return false;
-    }
-    let m = b.name;
-    let n = a.name;
-    names::same(m, n)
+    let name = a.name;
+    tables::reads::in_place(b, a.object, a.parent, a.directory, name)
 }
 
 pub fn records_clash(a: Record, b: Record) -> bool
@@ -126,32 +131,15 @@ pub fn records_clash(a: Record, b: Record) -> bool
 
 // ---- the entries of a partition
 
-pub fn entries_in_range(x: Entries, n: usize) -> bool
+pub fn each_entry_in_order(x: Entries, n: usize, last: u32) -> bool
     requires { ⌜ x .count ≤ maxEntries ⌝ }
-    ensures { λ r. ⌜ r ≡ all (entryAmong n) (entriesOf x) ⌝ }
+    ensures { λ r. ⌜ r ≡ all (entryFine n last) (entriesOf x) ⌝ }
 {
     let count = x.count;
     let mut i: usize = 0;
     while i < count {
         let item = x.items[i];
-        if entry_in_range(item, n) {
-            i += 1;
-        } else {
-            return false;
-        }
-    }
-    true
-}
-
-pub fn entries_given(x: Entries, last: u32) -> bool
-    requires { ⌜ x .count ≤ maxEntries ⌝ }
-    ensures { λ r. ⌜ r ≡ all (entryGiven last) (entriesOf x) ⌝ }
-{
-    let count = x.count;
-    let mut i: usize = 0;
-    while i < count {
-        let item = x.items[i];
-        if entry_given(item, last) {
+        if entry_in_order(item, n, last) {
             i += 1;
         } else {
             return false;
@@ -182,13 +170,12 @@ pub fn entries_apart(x: Entries) -> bool
 }
 
 pub fn entries_in_order(x: Entries, n: usize, last: u32) -> bool
-    requires { ⌜ x .count ≤ maxEntries ⌝ }
-    ensures { λ r. ⌜ r ≡ entriesFine n last (entriesOf x) ⌝ }
+    ensures { λ r. ⌜ r ≡ entriesFine n last x ⌝ }
 {
-    if entries_in_range(x, n) {} else {
+    if shape::entries_shaped(x) {} else {
         return false;
     }
-    if entries_given(x, last) {} else {
+    if each_entry_in_order(x, n, last) {} else {
         return false;
     }
     entries_apart(x)
@@ -196,32 +183,15 @@ pub fn entries_in_order(x: Entries, n: usize, last: u32) -> bool
 
 // ---- its back-pointers
 
-pub fn backpointers_in_range(x: Backpointers, n: usize) -> bool
+pub fn each_backpointer_in_order(x: Backpointers, n: usize, lasts: [u32; MAX_PARTITIONS]) -> bool
     requires { ⌜ x .count ≤ maxBackpointers ⌝ }
-    ensures { λ r. ⌜ r ≡ all (backpointerAmong n) (backpointersOf x) ⌝ }
+    ensures { λ r. ⌜ r ≡ all (backpointerFine n lasts) (backpointersOf x) ⌝ }
 {
     let count = x.count;
     let mut i: usize = 0;
     while i < count {
         let item = x.items[i];
-        if backpointer_in_range(item, n) {
-            i += 1;
-        } else {
-            return false;
-        }
-    }
-    true
-}
-
-pub fn backpointers_given(x: Backpointers, lasts: [u32; MAX_PARTITIONS]) -> bool
-    requires { ⌜ x .count ≤ maxBackpointers ⌝ }
-    ensures { λ r. ⌜ r ≡ all (backpointerGiven lasts) (backpointersOf x) ⌝ }
-{
-    let count = x.count;
-    let mut i: usize = 0;
-    while i < count {
-        let item = x.items[i];
-        if backpointer_given(item, lasts) {
+        if backpointer_in_order(item, n, lasts) {
             i += 1;
         } else {
             return false;
@@ -252,13 +222,12 @@ pub fn backpointers_apart(x: Backpointers) -> bool
 }
 
 pub fn backpointers_in_order(x: Backpointers, n: usize, lasts: [u32; MAX_PARTITIONS]) -> bool
-    requires { ⌜ x .count ≤ maxBackpointers ⌝ }
-    ensures { λ r. ⌜ r ≡ backpointersFine n lasts (backpointersOf x) ⌝ }
+    ensures { λ r. ⌜ r ≡ backpointersFine n lasts x ⌝ }
 {
-    if backpointers_in_range(x, n) {} else {
+    if shape::backpointers_shaped(x) {} else {
         return false;
     }
-    if backpointers_given(x, lasts) {} else {
+    if each_backpointer_in_order(x, n, lasts) {} else {
         return false;
     }
     backpointers_apart(x)
@@ -266,32 +235,15 @@ pub fn backpointers_in_order(x: Backpointers, n: usize, lasts: [u32; MAX_PARTITI
 
 // ---- its records
 
-pub fn records_in_range(x: Records, n: usize) -> bool
+pub fn each_record_in_order(x: Records, n: usize, last: u32) -> bool
     requires { ⌜ x .count ≤ maxRecords ⌝ }
-    ensures { λ r. ⌜ r ≡ all (recordAmong n) (recordsOf x) ⌝ }
+    ensures { λ r. ⌜ r ≡ all (recordFine n last) (recordsOf x) ⌝ }
 {
     let count = x.count;
     let mut i: usize = 0;
     while i < count {
         let item = x.items[i];
-        if record_in_range(item, n) {
-            i += 1;
-        } else {
-            return false;
-        }
-    }
-    true
-}
-
-pub fn records_given(x: Records, last: u32) -> bool
-    requires { ⌜ x .count ≤ maxRecords ⌝ }
-    ensures { λ r. ⌜ r ≡ all (recordGiven last) (recordsOf x) ⌝ }
-{
-    let count = x.count;
-    let mut i: usize = 0;
-    while i < count {
-        let item = x.items[i];
-        if record_given(item, last) {
+        if record_in_order(item, n, last) {
             i += 1;
         } else {
             return false;
@@ -322,13 +274,12 @@ pub fn records_apart(x: Records) -> bool
 }
 
 pub fn records_in_order(x: Records, n: usize, last: u32) -> bool
-    requires { ⌜ x .count ≤ maxRecords ⌝ }
-    ensures { λ r. ⌜ r ≡ recordsFine n last (recordsOf x) ⌝ }
+    ensures { λ r. ⌜ r ≡ recordsFine n last x ⌝ }
 {
-    if records_in_range(x, n) {} else {
+    if shape::records_shaped(x) {} else {
         return false;
     }
-    if records_given(x, last) {} else {
+    if each_record_in_order(x, n, last) {} else {
         return false;
     }
     records_apart(x)
@@ -372,8 +323,7 @@ pub fn has_room(entries: Entries, records: Records) -> bool
 }
 
 pub fn partition_in_order(p: Partition, n: usize, lasts: [u32; MAX_PARTITIONS]) -> bool
-    requires { ⌜ Ranged p ⌝ }
-    ensures { λ r. ⌜ r ≡ partitionFine n lasts (viewPartition p) ⌝ }
+    ensures { λ r. ⌜ r ≡ partitionFine n lasts p ⌝ }
 {
     let last = p.last;
     let entries = p.entries;

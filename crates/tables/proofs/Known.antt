@@ -2,7 +2,6 @@
 use mathlib.Core.Path.{_≡_}
 use mathlib.Core.List.{List, [], _∷_}
 use Prim.Native.Nat.{ℕ, _<_, _≤_}
-use native.Mathlib.Nat.{le-refl}
 use lib.ListN.{length}
 use mir.Val.{Val}
 use denote.Laws.{Is}
@@ -66,9 +65,6 @@ module _ (t : Tables) (vs : List Val) (h : Is tables.the-row t vs) where
 
   pub queues-length : length (t .queues) ≡ queueCount
   queues-length = search length-of
-
-  pub queues-fit : queueCount ≤ length (t .queues)
-  queues-fit = rw queues-length (le-refl _)
 
   partition-sized : (i : ℕ) → i < maxPartitions → SizedPartition (partitionAt t i)
   partition-sized i l =

@@ -31,12 +31,13 @@ use Rattle.tables.specs.declared.Partition.{Partition}
 use Rattle.tables.specs.declared.Queue.{Queue}
 use Rattle.tables.specs.declared.Records.{Records}
 use Rattle.tables.specs.declared.Tables.{Tables}
+use Rattle.lists.proofs.Alls.{all-past}
 use Rattle.lists.proofs.Fills.{pad-of, take-pad}
-use Rattle.lists.proofs.Images.{all-equal, all-past, back-again, there-and-back}
+use Rattle.lists.proofs.Images.{all-equal, back-again, there-and-back}
 use Rattle.lists.proofs.Places.{all-at}
-use Rattle.lists.proofs.Tests.{and-left, and-right, both-true, every-at, no-true, not-false}
+use Rattle.lists.proofs.Tests.{and-left, and-right, every-at, no-true, not-false}
 use Rattle.lists.proofs.Tidies.{tidy-count, tidy-length, tidy-pad, tidy-rest}
-use Rattle.names.proofs.Laws.{name-same, name-true}
+use Rattle.names.proofs.Laws.{name-true}
 use Rattle.protocol.specs.Tables.{Partition as Part, Model, noPartition as noPart}
 
 -- ---- a slot is free only if it is all zero
@@ -113,22 +114,6 @@ free-message x h =
     let k = is-link (x .kind) (and-left _ _ w) in
     let g = is-request (x .body) (and-right (isLink (x .kind)) _ w) in
     λ i. record { body = g i; kind = k i; directory = z .second i; name = s i; partition = z .third i; object = z .fourth i; number = z .first i }
-
-zero-entry-free : freeEntry zeroEntry ≡ true
-unfolding freeEntry zeroEntry
-zero-entry-free = name-same zeroName
-
-zero-backpointer-free : freeBackpointer zeroBackpointer ≡ true
-unfolding freeBackpointer zeroBackpointer
-zero-backpointer-free = name-same zeroName
-
-zero-record-free : freeRecord zeroRecord ≡ true
-unfolding freeRecord zeroRecord
-zero-record-free = both-true (name-same zeroName) refl
-
-zero-message-free : freeMessage zeroMessage ≡ true
-unfolding freeMessage zeroMessage
-zero-message-free = both-true (name-same zeroName) refl
 
 -- ---- the lists
 

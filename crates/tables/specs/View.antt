@@ -72,6 +72,10 @@ packPartition x =
       records = packRecords (x .records);
     }
 
+-- one with nothing in it
+unfoldable pub emptyPartition : Bool → Partition
+emptyPartition up = packPartition (record { up = up; last = 0; entries = []; backpointers = []; records = [] })
+
 unfoldable pub zeroPartition : Partition
 zeroPartition = packPartition noPart
 

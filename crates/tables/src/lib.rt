@@ -5,7 +5,9 @@ use protocol::Message;
 use protocol::Record;
 
 pub mod elements;
+pub mod fresh;
 pub mod reads;
+pub mod writes;
 
 pub const MAX_PARTITIONS: usize = 4;
 

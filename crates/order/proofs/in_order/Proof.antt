@@ -1,43 +1,112 @@
+use mathlib.Core.Bool.{_&&_}
+use Prim.Native.Nat.{_≤_}
 use borrow.Author.Needs.{needs}
-use Rattle.lists.proofs.Chains.{everys}
+use Rattle.protocol.specs.Bounds.{queueCount}
+use Rattle.protocol.specs.Order.{inOrder}
+use Rattle.tables.specs.View.{shaped, view}
+use Rattle.order.specs.Clauses.{pairAt}
+use Rattle.lists.proofs.Downs.{Down, downs}
 use Rattle.tables.proofs.Known.{sized}
-use Rattle.order.proofs.Decides.{decided, partitions-ranged, queues-ranged}
+use Rattle.order.proofs.Decides.{orders}
+use Rattle.order.proofs.Laws.{records-at}
 use Rattle.order.proofs.in_order.Statement.{statement}
 use Rattle.order.proofs.in_order.Tie as tie
 
-returns : tie.Need-returns
-returns c = search (decided, everys, partitions-ranged, queues-ranged, sized, needs) depth 9
+abbrev Inv-loop : tie.InvT-loop
+Inv-loop t k₀ k = (k ≤ queueCount) × Down (shaped t && inOrder (view t)) (pairAt t) k
 
-returns-2 : tie.Need-returns-2
-returns-2 c = search (decided, everys, partitions-ranged, queues-ranged, sized, needs) depth 9
+abbrev μ-loop : tie.MeasureT-loop
+μ-loop t k₀ k = k
 
-partitions-in-order-requires : tie.Need-partitions-in-order-requires
-partitions-in-order-requires c κs = search (decided, everys, partitions-ranged, queues-ranged, sized, needs) depth 9
+partitions-in-order-requires : tie.Need-partitions-in-order-requires Inv-loop μ-loop
+partitions-in-order-requires c κs = search (orders, downs, sized, needs)
 
-returns-3 : tie.Need-returns-3
-returns-3 c = search (decided, everys, partitions-ranged, queues-ranged, sized, needs) depth 9
+returns : tie.Need-returns Inv-loop μ-loop
+returns c = search (orders, downs, sized, needs)
 
-queues-shaped-requires : tie.Need-queues-shaped-requires
-queues-shaped-requires c κs = search (decided, everys, partitions-ranged, queues-ranged, sized, needs) depth 9
+loop-holds : tie.Need-loop-holds Inv-loop μ-loop
+loop-holds c = search (orders, downs, sized, needs)
 
-returns-4 : tie.Need-returns-4
-returns-4 c = search (decided, everys, partitions-ranged, queues-ranged, sized, needs) depth 9
+sub-k : tie.Need-sub-k Inv-loop μ-loop
+sub-k c = search (orders, downs, sized, needs)
 
-queues-in-order-requires : tie.Need-queues-in-order-requires
-queues-in-order-requires c κs = search (decided, everys, partitions-ranged, queues-ranged, sized, needs) depth 9
+mul-x : tie.Need-mul-x Inv-loop μ-loop
+mul-x c = search (orders, downs, sized, needs)
 
-returns-5 : tie.Need-returns-5
-returns-5 c = search (decided, everys, partitions-ranged, queues-ranged, sized, needs) depth 9
+element-copy-out-x : tie.Need-element-copy-out-x Inv-loop μ-loop
+element-copy-out-x c = search (orders, downs, sized, needs)
+
+mul-y : tie.Need-mul-y Inv-loop μ-loop
+mul-y c = search (orders, downs, sized, needs)
+
+element-copy-out-y : tie.Need-element-copy-out-y Inv-loop μ-loop
+element-copy-out-y c = search (orders, downs, sized, needs)
+
+mul-q : tie.Need-mul-q Inv-loop μ-loop
+mul-q c = search (orders, downs, sized, needs)
+
+element-copy-out-q : tie.Need-element-copy-out-q Inv-loop μ-loop
+element-copy-out-q c = search (orders, downs, sized, needs)
+
+mul-back : tie.Need-mul-back Inv-loop μ-loop
+mul-back c = search (orders, downs, sized, needs)
+
+add-back : tie.Need-add-back Inv-loop μ-loop
+add-back c = search (orders, downs, sized, needs)
+
+mul-back-2 : tie.Need-mul-back-2 Inv-loop μ-loop
+mul-back-2 c = search (orders, downs, sized, needs)
+
+element-copy-out-back : tie.Need-element-copy-out-back Inv-loop μ-loop
+element-copy-out-back c = search (orders, downs, sized, needs)
+
+cast-pair-in-order : tie.Need-cast-pair-in-order Inv-loop μ-loop
+cast-pair-in-order c = search (orders, downs, sized, needs)
+
+cast-pair-in-order-2 : tie.Need-cast-pair-in-order-2 Inv-loop μ-loop
+cast-pair-in-order-2 c = search (orders, downs, sized, needs)
+
+pair-in-order-requires : tie.Need-pair-in-order-requires Inv-loop μ-loop
+pair-in-order-requires c κs =
+    let p = c .before .before .before .before .before .before .before .before in
+    (records-at _ _ _ _ (p .before .partitions-in-order .ensures) (p .if1 .taken) (search needs), records-at _ _ _ _ (p .before .partitions-in-order .ensures) (p .if1 .taken) (search needs))
+
+loop-less : tie.Need-loop-less Inv-loop μ-loop
+loop-less c = search (orders, downs, sized, needs)
+
+loop-again : tie.Need-loop-again Inv-loop μ-loop
+loop-again c = search (orders, downs, sized, needs)
+
+returns-2 : tie.Need-returns-2 Inv-loop μ-loop
+returns-2 c = search (orders, downs, sized, needs)
+
+returns-3 : tie.Need-returns-3 Inv-loop μ-loop
+returns-3 c = search (orders, downs, sized, needs)
 
 pub in-order-spec : {M : Type 1} → statement M
 in-order-spec =
     tie.close
     (tie.spec
-    returns
-    returns-2
+    Inv-loop
+    μ-loop
     partitions-in-order-requires
-    returns-3
-    queues-shaped-requires
-    returns-4
-    queues-in-order-requires
-    returns-5)
+    returns
+    loop-holds
+    sub-k
+    mul-x
+    element-copy-out-x
+    mul-y
+    element-copy-out-y
+    mul-q
+    element-copy-out-q
+    mul-back
+    add-back
+    mul-back-2
+    element-copy-out-back
+    cast-pair-in-order
+    cast-pair-in-order-2
+    pair-in-order-requires
+    loop-less
+    loop-again
+    returns-2
+    returns-3)

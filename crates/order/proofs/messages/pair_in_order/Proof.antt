@@ -1,30 +1,50 @@
 use borrow.Author.Needs.{needs}
 use Rattle.order.specs.Clauses.{pairFine}
 use Rattle.lists.proofs.Chains.{everys}
+use Rattle.lists.proofs.Tidies.{tidy-fits}
 use Rattle.tables.proofs.Known.{messages-fit}
 use Rattle.order.proofs.Laws.{quiets}
 use Rattle.order.proofs.messages.pair_in_order.Statement.{statement}
 use Rattle.order.proofs.messages.pair_in_order.Tie as tie
 
+queue-shaped-requires : tie.Need-queue-shaped-requires
+queue-shaped-requires c κs = search (tidy-fits, needs)
+
 returns : tie.Need-returns
 unfolding pairFine
-returns c = search (quiets, everys, messages-fit, needs) depth 9
-
-messages-in-order-requires : tie.Need-messages-in-order-requires
-messages-in-order-requires c κs = search needs
+returns c = search (quiets, everys, tidy-fits, messages-fit, needs) depth 9
 
 returns-2 : tie.Need-returns-2
 unfolding pairFine
-returns-2 c = search (quiets, everys, messages-fit, needs) depth 9
-
-records-answered-requires : tie.Need-records-answered-requires
-records-answered-requires c κs = search needs
+returns-2 c = search (quiets, everys, tidy-fits, messages-fit, needs) depth 9
 
 returns-3 : tie.Need-returns-3
 unfolding pairFine
-returns-3 c = search (quiets, everys, messages-fit, needs) depth 9
+returns-3 c = search (quiets, everys, tidy-fits, messages-fit, needs) depth 9
+
+messages-in-order-requires : tie.Need-messages-in-order-requires
+messages-in-order-requires c κs = search (tidy-fits, needs)
+
+returns-4 : tie.Need-returns-4
+unfolding pairFine
+returns-4 c = search (quiets, everys, tidy-fits, messages-fit, needs) depth 9
+
+records-answered-requires : tie.Need-records-answered-requires
+records-answered-requires c κs = search (tidy-fits, needs)
+
+returns-5 : tie.Need-returns-5
+unfolding pairFine
+returns-5 c = search (quiets, everys, tidy-fits, messages-fit, needs) depth 9
 
 pub pair-in-order-spec : {M : Type 1} → statement M
 pair-in-order-spec =
     tie.close
-    (tie.spec returns messages-in-order-requires returns-2 records-answered-requires returns-3)
+    (tie.spec
+    queue-shaped-requires
+    returns
+    returns-2
+    returns-3
+    messages-in-order-requires
+    returns-4
+    records-answered-requires
+    returns-5)

@@ -1,37 +1,38 @@
 use borrow.Author.Needs.{needs}
 use Rattle.order.specs.Clauses.{backpointersFine}
 use Rattle.lists.proofs.Chains.{everys}
+use Rattle.lists.proofs.Tidies.{tidy-fits}
 use Rattle.order.proofs.partition.backpointers_in_order.Statement.{statement}
 use Rattle.order.proofs.partition.backpointers_in_order.Tie as tie
 
-backpointers-in-range-requires : tie.Need-backpointers-in-range-requires
-backpointers-in-range-requires c κs = search (everys, needs)
+backpointers-shaped-requires : tie.Need-backpointers-shaped-requires
+backpointers-shaped-requires c κs = search (tidy-fits, needs)
 
 returns : tie.Need-returns
 unfolding backpointersFine
-returns c = search (everys, needs)
+returns c = search (everys, tidy-fits, needs)
 
-backpointers-given-requires : tie.Need-backpointers-given-requires
-backpointers-given-requires c κs = search (everys, needs)
+each-backpointer-in-order-requires : tie.Need-each-backpointer-in-order-requires
+each-backpointer-in-order-requires c κs = search (tidy-fits, needs)
 
 returns-2 : tie.Need-returns-2
 unfolding backpointersFine
-returns-2 c = search (everys, needs)
+returns-2 c = search (everys, tidy-fits, needs)
 
 backpointers-apart-requires : tie.Need-backpointers-apart-requires
-backpointers-apart-requires c κs = search (everys, needs)
+backpointers-apart-requires c κs = search (tidy-fits, needs)
 
 returns-3 : tie.Need-returns-3
 unfolding backpointersFine
-returns-3 c = search (everys, needs)
+returns-3 c = search (everys, tidy-fits, needs)
 
 pub backpointers-in-order-spec : {M : Type 1} → statement M
 backpointers-in-order-spec =
     tie.close
     (tie.spec
-    backpointers-in-range-requires
+    backpointers-shaped-requires
     returns
-    backpointers-given-requires
+    each-backpointer-in-order-requires
     returns-2
     backpointers-apart-requires
     returns-3)

@@ -1,37 +1,38 @@
 use borrow.Author.Needs.{needs}
 use Rattle.order.specs.Clauses.{entriesFine}
 use Rattle.lists.proofs.Chains.{everys}
+use Rattle.lists.proofs.Tidies.{tidy-fits}
 use Rattle.order.proofs.partition.entries_in_order.Statement.{statement}
 use Rattle.order.proofs.partition.entries_in_order.Tie as tie
 
-entries-in-range-requires : tie.Need-entries-in-range-requires
-entries-in-range-requires c κs = search (everys, needs)
+entries-shaped-requires : tie.Need-entries-shaped-requires
+entries-shaped-requires c κs = search (tidy-fits, needs)
 
 returns : tie.Need-returns
 unfolding entriesFine
-returns c = search (everys, needs)
+returns c = search (everys, tidy-fits, needs)
 
-entries-given-requires : tie.Need-entries-given-requires
-entries-given-requires c κs = search (everys, needs)
+each-entry-in-order-requires : tie.Need-each-entry-in-order-requires
+each-entry-in-order-requires c κs = search (tidy-fits, needs)
 
 returns-2 : tie.Need-returns-2
 unfolding entriesFine
-returns-2 c = search (everys, needs)
+returns-2 c = search (everys, tidy-fits, needs)
 
 entries-apart-requires : tie.Need-entries-apart-requires
-entries-apart-requires c κs = search (everys, needs)
+entries-apart-requires c κs = search (tidy-fits, needs)
 
 returns-3 : tie.Need-returns-3
 unfolding entriesFine
-returns-3 c = search (everys, needs)
+returns-3 c = search (everys, tidy-fits, needs)
 
 pub entries-in-order-spec : {M : Type 1} → statement M
 entries-in-order-spec =
     tie.close
     (tie.spec
-    entries-in-range-requires
+    entries-shaped-requires
     returns
-    entries-given-requires
+    each-entry-in-order-requires
     returns-2
     entries-apart-requires
     returns-3)

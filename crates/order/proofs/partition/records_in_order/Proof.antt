@@ -1,37 +1,38 @@
 use borrow.Author.Needs.{needs}
 use Rattle.order.specs.Clauses.{recordsFine}
 use Rattle.lists.proofs.Chains.{everys}
+use Rattle.lists.proofs.Tidies.{tidy-fits}
 use Rattle.order.proofs.partition.records_in_order.Statement.{statement}
 use Rattle.order.proofs.partition.records_in_order.Tie as tie
 
-records-in-range-requires : tie.Need-records-in-range-requires
-records-in-range-requires c κs = search (everys, needs)
+records-shaped-requires : tie.Need-records-shaped-requires
+records-shaped-requires c κs = search (tidy-fits, needs)
 
 returns : tie.Need-returns
 unfolding recordsFine
-returns c = search (everys, needs)
+returns c = search (everys, tidy-fits, needs)
 
-records-given-requires : tie.Need-records-given-requires
-records-given-requires c κs = search (everys, needs)
+each-record-in-order-requires : tie.Need-each-record-in-order-requires
+each-record-in-order-requires c κs = search (tidy-fits, needs)
 
 returns-2 : tie.Need-returns-2
 unfolding recordsFine
-returns-2 c = search (everys, needs)
+returns-2 c = search (everys, tidy-fits, needs)
 
 records-apart-requires : tie.Need-records-apart-requires
-records-apart-requires c κs = search (everys, needs)
+records-apart-requires c κs = search (tidy-fits, needs)
 
 returns-3 : tie.Need-returns-3
 unfolding recordsFine
-returns-3 c = search (everys, needs)
+returns-3 c = search (everys, tidy-fits, needs)
 
 pub records-in-order-spec : {M : Type 1} → statement M
 records-in-order-spec =
     tie.close
     (tie.spec
-    records-in-range-requires
+    records-shaped-requires
     returns
-    records-given-requires
+    each-record-in-order-requires
     returns-2
     records-apart-requires
     returns-3)
