@@ -2,3 +2,4 @@ pub mod Known
 pub mod Packs
 pub mod Views
 pub mod Rooms
+pub mod Written
