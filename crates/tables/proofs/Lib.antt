@@ -3,3 +3,4 @@ pub mod Packs
 pub mod Views
 pub mod Rooms
 pub mod Written
+pub mod Stored

@@ -6,6 +6,7 @@ use protocol::Record;
 
 pub mod elements;
 pub mod reads;
+pub mod stores;
 pub mod writes;
 
 pub const MAX_PARTITIONS: usize = 4;
