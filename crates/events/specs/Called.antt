@@ -2,19 +2,20 @@
 use mathlib.Core.Bool.{Bool, true, false, _&&_, _||_, not}
 use mathlib.Core.List.{[], _∷_}
 use mathlib.Core.Path.{_≡_}
-use Prim.Native.Nat.{ℕ}
+use Prim.Native.Nat.{ℕ, _<_}
 use lib.Dec.{ltb}
 use Rattle.lists.specs.Lists.{pick, every}
 use Rattle.protocol.specs.declared.Refusal.{Refusal}
 use Rattle.protocol.specs.declared.Refusal.the-variants.{Accepted, OutOfOrder}
 use Rattle.protocol.specs.declared.Reply.{Reply}
 use Rattle.protocol.specs.declared.Reply.the-variants.{None}
-use Rattle.protocol.specs.Tables.{isDirectory, isObject}
-use Rattle.protocol.specs.Order.{inOrder}
+use Rattle.protocol.specs.Tables.{isDirectory, isObject, isPartition}
+use Rattle.protocol.specs.Order.{inOrder, inRange}
 use Rattle.protocol.specs.Answers.{Outcome, refuse, accepted}
 use Rattle.protocol.specs.Events.{Event, tests, apply}
 use Rattle.tables.specs.declared.Tables.{Tables}
-use Rattle.tables.specs.View.{view, pack, shaped}
+use Rattle.protocol.specs.Bounds.{largestNumber, maxPartitions, maxRecords}
+use Rattle.tables.specs.View.{view, pack, shaped, partitionAt}
 pub use Rattle.events.specs.declared.Answered.{Answered}
 
 -- a refusal gives back the tables that were lent
@@ -43,3 +44,20 @@ acceptedWith t n reply = record { answer = record { refusal = Accepted; number =
 -- partition p of n, directory d, object o of partition q
 abbrev pub askInRange : ℕ → ℕ → ℕ → ℕ → ℕ → Bool
 askInRange n p d q o = ltb p n && every (isDirectory d ∷ ltb q n ∷ isObject o ∷ [])
+
+abbrev pub inDirectory : ℕ → ℕ → ℕ → Bool
+inDirectory n p d = ltb p n && isDirectory d
+
+-- partition p has a number to give, and room for a record
+pub record Opens (t : Tables) (p : ℕ) : Type 0 where
+  pub last : partitionAt t p .last < largestNumber
+  pub records : partitionAt t p .records .count < maxRecords
+
+-- partition p is there, and directory d and object o of partition q are in range
+pub record Placed (t : Tables) (p d q o : ℕ) : Type 0 where
+  pub partition : p < t .count
+  pub four : p < maxPartitions
+  pub directory : d < 256
+  pub owner : q < 256
+  pub object : o < 256
+  pub test : (isPartition (view t) p && inRange (view t) d q o) ≡ true

@@ -1,18 +1,28 @@
 // The nine events on the tables by value. Each public function answers any tables and any numbers exactly as document 01's
 // definition does, and gives back the tables as they were where it refuses.
 ghost use mathlib.Core.Path.{_≡_};
+ghost use Prim.Native.Nat.{_<_};
 ghost use Rattle.events.specs.Called.{refusedWith, acceptedWith};
 use protocol::Answer;
 use protocol::Refusal;
 use protocol::Reply;
 use tables::Tables;
 
+pub mod ask;
 pub mod next;
 
 // What a call answers, and the tables after it.
 pub struct Answered {
     pub answer: Answer,
     pub tables: Tables,
+}
+
+// A number that is in range, as the tables hold it.
+pub fn small(x: u32) -> u8
+    requires { ⌜ x < 256 ⌝ }
+    ensures { λ r. ⌜ r ≡ x ⌝ }
+{
+    x as u8
 }
 
 pub fn refused(t: Tables, why: Refusal) -> Answered

@@ -23,6 +23,8 @@ pub const MAX_RECORDS: usize = 16;
 
 pub const MAX_MESSAGES: usize = 32;
 
+pub const LARGEST_NUMBER: u32 = 4294967295;
+
 // One queue for each ordered pair of partitions.
 pub const QUEUES: usize = 16;
 

@@ -1,0 +1,158 @@
+// Link, create and unlink: an ask opens a ready record (document 01, 'The nine events', 1 to 3).
+ghost use mathlib.Core.Path.{_≡_};
+ghost use Prim.Native.Nat.{_<_, _≤_};
+ghost use Rattle.lists.specs.Lists.{keep, isNone};
+ghost use Rattle.protocol.specs.Ask.{ask, askTables, openAsk, asked, unlink};
+ghost use Rattle.protocol.specs.Bounds.{maxEntries, maxPartitions};
+ghost use Rattle.protocol.specs.Tables.{standsUnder};
+ghost use Rattle.tables.specs.View.{view, entriesOf};
+ghost use Rattle.events.specs.Called.{Ready, Opens, Placed, stored, tested, askInRange, inDirectory};
+use crate::Answered;
+use crate::accepted;
+use crate::refused;
+use crate::small;
+use lists::Found;
+use names::Name;
+use protocol::Kind;
+use protocol::Record;
+use protocol::Refusal;
+use protocol::Reply;
+use protocol::Stage;
+use tables::DIRECTORIES;
+use tables::Entries;
+use tables::LARGEST_NUMBER;
+use tables::MAX_ENTRIES;
+use tables::MAX_RECORDS;
+use tables::OBJECTS;
+use tables::Tables;
+use tables::reads;
+use tables::stores;
+use tables::writes;
+
+// Whether partition p of n, directory d and object o of partition q are there.
+pub fn ask_in_range(n: usize, p: u32, d: u32, q: u32, o: u32) -> bool
+    ensures { λ r. ⌜ r ≡ askInRange n p d q o ⌝ }
+{
+    if n <= p as usize {
+        return false;
+    }
+    if DIRECTORIES as u32 <= d {
+        return false;
+    }
+    if n <= q as usize {
+        return false;
+    }
+    o < OBJECTS as u32
+}
+
+pub fn is_free(l: Entries, directory: u8, name: Name) -> bool
+    requires { ⌜ l .count ≤ maxEntries ⌝ }
+    ensures { λ r. ⌜ r ≡ isNone (keep (standsUnder directory name) (entriesOf l)) ⌝ }
+{
+    let found = reads::find_name(l, directory, name);
+    match found {
+        Found::At(_) => false,
+        Found::Nothing => true,
+    }
+}
+
+pub fn asked_record(
+    kind: Kind,
+    directory: u8,
+    name: Name,
+    partition: u8,
+    object: u8,
+    number: u32,
+) -> Record
+    ensures { λ r. ⌜ r ≡ asked kind directory name partition object number ⌝ }
+{
+    let stage = Stage::Ready;
+    Record {
+        kind: kind,
+        directory: directory,
+        name: name,
+        partition: partition,
+        object: object,
+        number: number,
+        stage: stage,
+    }
+}
+
+// ---- link and create
+
+// The number is given, and the record opened.
+pub fn open_ask(kind: Kind, t: Tables, p: usize, d: u8, name: Name, q: u8, o: u8) -> Answered
+    requires { ⌜ Ready t × (p < t .count) × (p < maxPartitions) × Opens t p ⌝ }
+    ensures { λ r. ⌜ r ≡ stored t (openAsk kind (view t) p d name q o) ⌝ }
+{
+    let x = t.partitions[p];
+    let number = x.last + 1;
+    let record = asked_record(kind, d, name, q, o, number);
+    let records = x.records;
+    let more = writes::add_record(records, record);
+    let given = stores::with_last(t, p, number);
+    let opened = stores::with_records(given, p, more);
+    accepted(opened, number, Reply::None)
+}
+
+// The refusals that look into the tables of p.
+pub fn ask_tables(kind: Kind, t: Tables, p: usize, d: u8, name: Name, q: u8, o: u8) -> Answered
+    requires { ⌜ Ready t × (p < t .count) × (p < maxPartitions) ⌝ }
+    ensures { λ r. ⌜ r ≡ stored t (askTables kind (view t) p d name q o) ⌝ }
+{
+    let x = t.partitions[p];
+    let entries = x.entries;
+    let records = x.records;
+    if is_free(entries, d, name) {} else {
+        return refused(t, Refusal::NameExists);
+    }
+    if x.last < LARGEST_NUMBER {} else {
+        return refused(t, Refusal::NumbersSpent);
+    }
+    if records.count < MAX_RECORDS {} else {
+        return refused(t, Refusal::LogFull);
+    }
+    if reads::claimed(entries, records) < MAX_ENTRIES {} else {
+        return refused(t, Refusal::EntriesFull);
+    }
+    open_ask(kind, t, p, d, name, q, o)
+}
+
+// The arguments are in range.
+pub fn ask_placed(kind: Kind, t: Tables, p: u32, d: u32, name: Name, q: u32, o: u32) -> Answered
+    requires { ⌜ Ready t × Placed t p d q o ⌝ }
+    ensures { λ r. ⌜ r ≡ stored t (ask kind (view t) p d name q o) ⌝ }
+{
+    if names::good(name) {} else {
+        return refused(t, Refusal::BadName);
+    }
+    let at = p as usize;
+    let x = t.partitions[at];
+    if x.up {} else {
+        return refused(t, Refusal::Down);
+    }
+    let directory = small(d);
+    let partition = small(q);
+    let object = small(o);
+    ask_tables(kind, t, at, directory, name, partition, object)
+}
+
+pub fn ask_in_order(kind: Kind, t: Tables, p: u32, d: u32, name: Name, q: u32, o: u32) -> Answered
+    requires { ⌜ Ready t ⌝ }
+    ensures { λ r. ⌜ r ≡ stored t (ask kind (view t) p d name q o) ⌝ }
+{
+    if ask_in_range(t.count, p, d, q, o) {} else {
+        return refused(t, Refusal::OutOfRange);
+    }
+    ask_placed(kind, t, p, d, name, q, o)
+}
+
+// Link or create, on any tables.
+pub fn ask(kind: Kind, t: Tables, p: u32, d: u32, name: Name, q: u32, o: u32) -> Answered
+    ensures { λ r. ⌜ r ≡ tested t (ask kind (view t) p d name q o) ⌝ }
+{
+    if order::in_order(t) {} else {
+        return refused(t, Refusal::OutOfOrder);
+    }
+    ask_in_order(kind, t, p, d, name, q, o)
+}
