@@ -31,7 +31,7 @@ use Rattle.lists.proofs.Tests.{and-left, and-right, every-at}
 use Rattle.protocol.proofs.Look.{part-same}
 use Rattle.tables.proofs.Stored.{records-stored}
 use Rattle.events.proofs.Changed.{records-changed}
-use Rattle.events.proofs.Ways.{ready-stored, accepts, passes, read-four, read-records, read-view, ready-count, ready-view, refuses}
+use Rattle.events.proofs.Ways.{read-count, ready-stored, accepts, passes, read-view, ready-count, ready-view, refuses}
 
 module _ (t : Tables) (z : Sized t) (r : Ready t) (k : Kind) (p d : ℕ) (s : Name) (q o : ℕ) where
   -- ---- by the arguments
@@ -105,10 +105,7 @@ module _ (t : Tables) (z : Sized t) (r : Ready t) (p : ℕ) (h : p < t .count) (
       numbered w = passes t _ NumbersSpent _ w (rw seen (lt-ltb _ _ l))
 
       counted : length (partition (view t) p .records) ≡ x .records .count
-      counted = rw seen (length-take-le (x .records .count) (x .records .items) (omega (arith, read-records t p z r h x e, sized-records)))
-        where
-          sized-records : length (x .records .items) ≡ maxRecords
-          sized-records = rw e (z .partition p (read-four t p z r h) .records)
+      counted = read-count t p z r h x e
 
       pub tables-full : (a : Answered) → maxRecords ≤ x .records .count → a ≡ refusedWith t LogFull → a ≡ stored t (askTables k (view t) p d s q o)
       unfolding askTables

@@ -51,6 +51,11 @@ module _ (t : Tables) (p : ℕ) (z : Sized t) (r : Ready t) (h : p < t .count) (
   pub read-records : x .records .count ≤ maxRecords
   read-records = rw e (ranged (partitionAt t p) (shaped-all t z (r .shaped) .partition p (read-four t p z r h)) .records)
 
+  pub read-count : length (partition (view t) p .records) ≡ x .records .count
+  read-count =
+      let a : length (x .records .items) ≡ maxRecords = rw e (z .partition p (read-four t p z r h) .records) in
+      rw read-view (length-take-le (x .records .count) (x .records .items) (omega (arith, read-records)))
+
 -- ---- a refusal, and a passed test
 
 pub refuses : (t : Tables) (p : Bool) (why : Refusal) (m : Model) (o : Outcome) → isAccepted why ≡ false → p ≡ false → refusedWith t why ≡ stored t (check p why m o)

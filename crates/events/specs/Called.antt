@@ -61,3 +61,9 @@ pub record Placed (t : Tables) (p d q o : ℕ) : Type 0 where
   pub owner : q < 256
   pub object : o < 256
   pub test : (isPartition (view t) p && inRange (view t) d q o) ≡ true
+
+pub record PlacedIn (t : Tables) (p d : ℕ) : Type 0 where
+  pub partition : p < t .count
+  pub four : p < maxPartitions
+  pub directory : d < 256
+  pub test : (isPartition (view t) p && isDirectory d) ≡ true

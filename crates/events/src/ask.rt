@@ -1,18 +1,22 @@
 // Link, create and unlink: an ask opens a ready record (document 01, 'The nine events', 1 to 3).
+ghost use mathlib.Core.List.{_∷_, []};
 ghost use mathlib.Core.Path.{_≡_};
 ghost use Prim.Native.Nat.{_<_, _≤_};
 ghost use Rattle.lists.specs.Lists.{keep, isNone};
-ghost use Rattle.protocol.specs.Ask.{ask, askTables, openAsk, asked, unlink};
-ghost use Rattle.protocol.specs.Bounds.{maxEntries, maxPartitions};
-ghost use Rattle.protocol.specs.Tables.{standsUnder};
-ghost use Rattle.tables.specs.View.{view, entriesOf};
-ghost use Rattle.events.specs.Called.{Ready, Opens, Placed, stored, tested, askInRange, inDirectory};
+ghost use Rattle.protocol.specs.Answers.{accept};
+ghost use Rattle.protocol.specs.Ask.{ask, askTables, openAsk, asked, unlink, unlinkFound, unlinkOf};
+ghost use Rattle.protocol.specs.declared.Reply.the-variants.{None};
+ghost use Rattle.protocol.specs.Bounds.{maxEntries, maxPartitions, maxRecords};
+ghost use Rattle.protocol.specs.Tables.{openRecord, partition, recordBears, standsUnder};
+ghost use Rattle.tables.specs.View.{view, entriesOf, recordsOf, partitionAt};
+ghost use Rattle.events.specs.Called.{Ready, Opens, Placed, PlacedIn, stored, tested, askInRange, inDirectory};
 use crate::Answered;
 use crate::accepted;
 use crate::refused;
 use crate::small;
 use lists::Found;
 use names::Name;
+use protocol::Entry;
 use protocol::Kind;
 use protocol::Record;
 use protocol::Refusal;
@@ -24,6 +28,7 @@ use tables::LARGEST_NUMBER;
 use tables::MAX_ENTRIES;
 use tables::MAX_RECORDS;
 use tables::OBJECTS;
+use tables::Records;
 use tables::Tables;
 use tables::reads;
 use tables::stores;
@@ -155,4 +160,113 @@ pub fn ask(kind: Kind, t: Tables, p: u32, d: u32, name: Name, q: u32, o: u32) ->
         return refused(t, Refusal::OutOfOrder);
     }
     ask_in_order(kind, t, p, d, name, q, o)
+}
+
+// ---- unlink
+
+pub fn is_unopened(l: Records, number: u32) -> bool
+    requires { ⌜ l .count ≤ maxRecords ⌝ }
+    ensures { λ r. ⌜ r ≡ isNone (keep (recordBears number) (recordsOf l)) ⌝ }
+{
+    let found = reads::find_record(l, number);
+    match found {
+        Found::At(_) => false,
+        Found::Nothing => true,
+    }
+}
+
+pub fn unlink_record(e: Entry) -> Record
+    ensures { λ r. ⌜ r ≡ unlinkOf e ⌝ }
+{
+    let kind = Kind::Unlink;
+    let stage = Stage::Ready;
+    let name = e.name;
+    Record {
+        kind: kind,
+        directory: e.directory,
+        name: name,
+        partition: e.partition,
+        object: e.object,
+        number: e.number,
+        stage: stage,
+    }
+}
+
+pub fn open_unlink(t: Tables, p: usize, e: Entry) -> Answered
+    requires { ⌜ Ready t × (p < t .count) × (p < maxPartitions) × (partitionAt t p .records .count < maxRecords) ⌝ }
+    ensures { λ r. ⌜ r ≡ stored t (accept (e .number) None (openRecord (view t) p (unlinkOf e))) ⌝ }
+{
+    let x = t.partitions[p];
+    let record = unlink_record(e);
+    let records = x.records;
+    let more = writes::add_record(records, record);
+    let opened = stores::with_records(t, p, more);
+    accepted(opened, e.number, Reply::None)
+}
+
+// The entry that stands under the name.
+pub fn unlink_entry(t: Tables, p: usize, e: Entry) -> Answered
+    requires { ⌜ Ready t × (p < t .count) × (p < maxPartitions) ⌝ }
+    ensures { λ r. ⌜ r ≡ stored t (unlinkFound (view t) p (e ∷ [])) ⌝ }
+{
+    let x = t.partitions[p];
+    let records = x.records;
+    if is_unopened(records, e.number) {} else {
+        return refused(t, Refusal::RecordOpen);
+    }
+    if records.count < MAX_RECORDS {} else {
+        return refused(t, Refusal::LogFull);
+    }
+    open_unlink(t, p, e)
+}
+
+pub fn unlink_tables(t: Tables, p: usize, d: u8, name: Name) -> Answered
+    requires { ⌜ Ready t × (p < t .count) × (p < maxPartitions) ⌝ }
+    ensures { λ r. ⌜ r ≡ stored t (unlinkFound (view t) p (keep (standsUnder d name) (partition (view t) p .entries))) ⌝ }
+{
+    let x = t.partitions[p];
+    let entries = x.entries;
+    let found = reads::find_name(entries, d, name);
+    match found {
+        Found::Nothing => refused(t, Refusal::NameAbsent),
+        Found::At(i) => {
+            let e = entries.items[i];
+            unlink_entry(t, p, e)
+        }
+    }
+}
+
+pub fn in_directory(n: usize, p: u32, d: u32) -> bool
+    ensures { λ r. ⌜ r ≡ inDirectory n p d ⌝ }
+{
+    if n <= p as usize {
+        return false;
+    }
+    d < DIRECTORIES as u32
+}
+
+pub fn unlink_placed(t: Tables, p: u32, d: u32, name: Name) -> Answered
+    requires { ⌜ Ready t × PlacedIn t p d ⌝ }
+    ensures { λ r. ⌜ r ≡ stored t (unlink (view t) p d name) ⌝ }
+{
+    if names::good(name) {} else {
+        return refused(t, Refusal::BadName);
+    }
+    let at = p as usize;
+    let x = t.partitions[at];
+    if x.up {} else {
+        return refused(t, Refusal::Down);
+    }
+    let directory = small(d);
+    unlink_tables(t, at, directory, name)
+}
+
+pub fn unlink_in_order(t: Tables, p: u32, d: u32, name: Name) -> Answered
+    requires { ⌜ Ready t ⌝ }
+    ensures { λ r. ⌜ r ≡ stored t (unlink (view t) p d name) ⌝ }
+{
+    if in_directory(t.count, p, d) {} else {
+        return refused(t, Refusal::OutOfRange);
+    }
+    unlink_placed(t, p, d, name)
 }
