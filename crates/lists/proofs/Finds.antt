@@ -1,19 +1,20 @@
 -- Where a search ended: the place lies within, and what its test keeps begins there.
-use mathlib.Core.Bool.{Bool, false, true}
-use mathlib.Core.List.{List, [], _∷_}
-use mathlib.Core.Path.{_∙_, _≡_, ap, refl, sym}
 use Prim.Native.Nat.{_*_, _+_, _<_, _^_, _≤_, suc, ℕ}
-use native.Mathlib.Omega.{arith}
+use Rattle.lists.proofs.Tests.{no-true}
+use Rattle.lists.specs.Lists.{At, Found, Nothing, firstAt, firstFrom, isNone, isSome, keep, pick}
+use Rattle.lists.specs.declared.Found.{Found}
+use Rattle.lists.specs.declared.Found.the-variants.{At, Nothing}
+use borrow.Author.Needs.{scaled-fits}
+use denote.Struct.Rest.{rest}
 use lib.Dec.{T, lit<, ltb}
 use lib.ListN.{getD, length, length-take, take}
 use lib.Seq.{getD-take}
+use mathlib.Core.Bool.{Bool, false, true}
+use mathlib.Core.List.{List, [], _∷_}
+use mathlib.Core.Path.{_∙_, _≡_, ap, refl, sym}
 use mir.Syntax.{w64}
 use mir.Val.{Fits}
-use denote.Struct.Rest.{rest}
-use borrow.Author.Needs.{scaled-fits}
-use Rattle.lists.specs.Lists.{firstAt, firstFrom, isNone, keep, pick}
-use Rattle.lists.specs.declared.Found.{Found}
-use Rattle.lists.specs.declared.Found.the-variants.{At, Nothing}
+use native.Mathlib.Omega.{arith}
 
 module _ {A : Type 0} where
   -- the first that is kept stands at the place found
@@ -80,3 +81,15 @@ module _ {A : Type 0} (f : A → Bool) (l : List A) (r : Found) (e : r ≡ first
       go : (l : List A) → firstAt f l ≡ At i → false ≡ isNone (keep f l)
       go [] h = unfold firstFrom in (absurd (let z : _≡_ {A = ℕ} 0 1 = cc in omega arith))
       go (x ∷ k) h = sym (ap isNone (first-kept f 0 i (x ∷ k) x h .kept))
+
+  pub missed-some : r ≡ Nothing → false ≡ isSome (keep f l)
+  missed-some q = sym (ap isSome (none-kept f 0 l (sym e ∙ q)))
+
+  pub hit-some : (i : ℕ) → r ≡ At i → true ≡ isSome (keep f l)
+  hit-some i q = go (keep f l) (found-some i q)
+    where
+      go : (k : List A) → false ≡ isNone k → true ≡ isSome k
+      go [] h = no-true refl (sym h)
+      go (x ∷ k) h = refl
+
+pub ruleset somes = (missed-some, hit-some)

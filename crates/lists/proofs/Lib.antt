@@ -12,6 +12,7 @@ pub mod Downs
 pub mod Fills
 pub mod Tidies
 pub mod Stores
+pub mod Gaps
 pub mod Arrays
 pub mod Finds
 pub mod Images

@@ -5,3 +5,4 @@ pub mod Rooms
 pub mod Written
 pub mod Opened
 pub mod Shapes
+pub mod Stored

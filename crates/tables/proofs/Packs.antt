@@ -239,7 +239,7 @@ view-injective t u a b e f h = sym (pack-view t a e) ∙ ap pack h ∙ pack-view
 
 -- ---- a model comes back from its stored form
 
-partition-unpack : (x : Part) → viewPartition (packPartition x) ≡ x
+pub partition-unpack : (x : Part) → viewPartition (packPartition x) ≡ x
 partition-unpack x =
     let a = take-pad maxEntries zeroEntry (x .entries) in
     let b = take-pad maxBackpointers zeroBackpointer (x .backpointers) in

@@ -165,3 +165,9 @@ pub record Ranged (p : Partition) : Type 0 where
   pub entries : p .entries .count ≤ maxEntries
   pub backpointers : p .backpointers .count ≤ maxBackpointers
   pub records : p .records .count ≤ maxRecords
+
+-- ---- tables that are the stored form of what they mean, and have a partition p
+pub record Stored (t : Tables) (p : ℕ) : Type 0 where
+  pub packed : pack (view t) ≡ t
+  pub count : t .count ≤ maxPartitions
+  pub inside : p < t .count

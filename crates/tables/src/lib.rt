@@ -7,6 +7,7 @@ use protocol::Record;
 pub mod elements;
 pub mod fresh;
 pub mod reads;
+pub mod stores;
 pub mod writes;
 
 pub const MAX_PARTITIONS: usize = 4;
@@ -22,6 +23,8 @@ pub const MAX_BACKPOINTERS: usize = 64;
 pub const MAX_RECORDS: usize = 16;
 
 pub const MAX_MESSAGES: usize = 32;
+
+pub const LARGEST_NUMBER: u32 = 4294967295;
 
 // One queue for each ordered pair of partitions.
 pub const QUEUES: usize = 16;

@@ -1,0 +1,80 @@
+-- A store in tables that are the stored form of a model is the stored form of that model's change.
+use mathlib.Core.List.{List, [], _++_, _∷_}
+use mathlib.Core.Path.{_∙_, _≡_, ap, refl, sym}
+use Prim.Native.Nat.{_*_, _+_, _<_, _≤_, ℕ}
+use lib.ListN.{length, length-set}
+use Rattle.protocol.specs.Bounds.{maxBackpointers, maxEntries, maxMessages, maxPartitions, maxRecords}
+use Rattle.protocol.specs.Tables.{Model, changeBackpointers, changeEntries, changeRecords, partition, queue, send, setPartition, setQueue, withBackpointers, withEntries, withRecords, Partition as Part}
+use Rattle.protocol.specs.declared.Backpointer.{Backpointer}
+use Rattle.protocol.specs.declared.Entry.{Entry}
+use Rattle.protocol.specs.declared.Message.{Message}
+use Rattle.protocol.specs.declared.Record.{Record}
+use Rattle.tables.specs.Slots.{zeroBackpointer, zeroEntry, zeroMessage, zeroRecord}
+use Rattle.tables.specs.View.{Stored, backpointersOf, entriesOf, messagesOf, pack, packBackpointers, packEntries, packQueue, packRecords, recordsOf, view}
+use Rattle.tables.specs.declared.Backpointers.{Backpointers}
+use Rattle.tables.specs.declared.Entries.{Entries}
+use Rattle.tables.specs.declared.Queue.{Queue}
+use Rattle.tables.specs.declared.Records.{Records}
+use Rattle.tables.specs.declared.Tables.{Tables}
+use Rattle.lists.proofs.Fills.{take-pad}
+use Rattle.tables.proofs.Packs.{view-pack}
+
+-- what is in its stored form
+pub packed-entries : (l : Entries) (k : List Entry) → l ≡ packEntries k → packEntries (entriesOf l) ≡ l
+packed-entries l k e = rw e (ap packEntries (take-pad maxEntries zeroEntry k))
+
+pub packed-backpointers : (l : Backpointers) (k : List Backpointer) → l ≡ packBackpointers k → packBackpointers (backpointersOf l) ≡ l
+packed-backpointers l k e = rw e (ap packBackpointers (take-pad maxBackpointers zeroBackpointer k))
+
+pub packed-records : (l : Records) (k : List Record) → l ≡ packRecords k → packRecords (recordsOf l) ≡ l
+packed-records l k e = rw e (ap packRecords (take-pad maxRecords zeroRecord k))
+
+pub packed-messages : (l : Queue) (k : List Message) → l ≡ packQueue k → packQueue (messagesOf l) ≡ l
+packed-messages l k e = rw e (ap packQueue (take-pad maxMessages zeroMessage k))
+
+-- after a store in partition p of t
+pub stored-again : (t u : Tables) (p q : ℕ) (x : Part) → Stored t q → u ≡ pack (setPartition (view t) p x) → Stored u q
+unfolding pack setPartition
+stored-again t u p q x s e =
+    let v : view u ≡ setPartition (view t) p x = ap view e ∙ view-pack (setPartition (view t) p x) in
+    let c : u .count ≡ t .count = ap (λ (w : Tables). w .count) e ∙ length-set (view t .partitions) p x ∙ ap (λ (w : Tables). w .count) (s .packed) in
+    record { packed = ap pack v ∙ sym e; count = rw c (s .count); inside = rw c (s .inside) }
+
+pub stored-queued : (t u : Tables) (a b q : ℕ) (l : List Message) → Stored t q → u ≡ pack (setQueue (view t) a b l) → Stored u q
+unfolding pack setQueue
+stored-queued t u a b q l s e =
+    let v : view u ≡ setQueue (view t) a b l = ap view e ∙ view-pack (setQueue (view t) a b l) in
+    let c : u .count ≡ t .count = ap (λ (w : Tables). w .count) e ∙ ap (λ (w : Tables). w .count) (s .packed) in
+    record { packed = ap pack v ∙ sym e; count = rw c (s .count); inside = rw c (s .inside) }
+
+-- u is the stored form of m; w is u with one list of partition p stored
+module _ (m : Model) (p : ℕ) (u w : Tables) (e : u ≡ pack m) where
+  meant : view u ≡ m
+  meant = ap view e ∙ view-pack m
+
+  pub entries-changed : (f : List Entry → List Entry) (l : Entries) → l ≡ packEntries (f (partition m p .entries))
+      → w ≡ pack (setPartition (view u) p (withEntries (partition (view u) p) (entriesOf l))) → w ≡ pack (changeEntries m p f)
+  unfolding changeEntries
+  entries-changed f l h g =
+      g ∙ ap (λ (x : Model). pack (setPartition x p (withEntries (partition x p) (entriesOf l)))) meant
+      ∙ ap (λ (k : List Entry). pack (setPartition m p (withEntries (partition m p) k))) (ap entriesOf h ∙ take-pad maxEntries zeroEntry _)
+
+  pub backpointers-changed : (f : List Backpointer → List Backpointer) (l : Backpointers) → l ≡ packBackpointers (f (partition m p .backpointers))
+      → w ≡ pack (setPartition (view u) p (withBackpointers (partition (view u) p) (backpointersOf l))) → w ≡ pack (changeBackpointers m p f)
+  unfolding changeBackpointers
+  backpointers-changed f l h g =
+      g ∙ ap (λ (x : Model). pack (setPartition x p (withBackpointers (partition x p) (backpointersOf l)))) meant
+      ∙ ap (λ (k : List Backpointer). pack (setPartition m p (withBackpointers (partition m p) k))) (ap backpointersOf h ∙ take-pad maxBackpointers zeroBackpointer _)
+
+  pub records-changed : (f : List Record → List Record) (l : Records) → l ≡ packRecords (f (partition m p .records))
+      → w ≡ pack (setPartition (view u) p (withRecords (partition (view u) p) (recordsOf l))) → w ≡ pack (changeRecords m p f)
+  unfolding changeRecords
+  records-changed f l h g =
+      g ∙ ap (λ (x : Model). pack (setPartition x p (withRecords (partition x p) (recordsOf l)))) meant
+      ∙ ap (λ (k : List Record). pack (setPartition m p (withRecords (partition m p) k))) (ap recordsOf h ∙ take-pad maxRecords zeroRecord _)
+
+  pub message-sent : (r : ℕ) (x : Message) (q : Queue) → q ≡ packQueue (queue m p r ++ x ∷ []) → w ≡ pack (setQueue (view u) p r (messagesOf q)) → w ≡ pack (send m p r x)
+  unfolding send
+  message-sent r x q h g =
+      g ∙ ap (λ (y : Model). pack (setQueue y p r (messagesOf q))) meant
+      ∙ ap (λ (k : List Message). pack (setQueue m p r k)) (ap messagesOf h ∙ take-pad maxMessages zeroMessage _)

@@ -1,0 +1,4 @@
+pub mod Ways
+pub mod Asks
+pub mod Changed
+pub mod Unlinks

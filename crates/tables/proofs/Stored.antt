@@ -1,0 +1,116 @@
+-- What tables in their stored form hold at each place, and what they are after a store.
+use mathlib.Core.Bool.{Bool}
+use mathlib.Core.List.{List, [], _∷_, map}
+use mathlib.Core.Path.{_∙_, _≡_, ap, ap₂, refl, sym}
+use Prim.Native.Nat.{_*_, _+_, _<_, suc, zero, ℕ}
+use native.Mathlib.Omega.{arith}
+use lib.ListN.{List·getD-map, getD, length, length-map, length-set, set}
+use lib.Seq.{getD-take}
+use Rattle.lists.specs.Lists.{pad}
+use Rattle.protocol.specs.Bounds.{maxBackpointers, maxEntries, maxPartitions, maxRecords}
+use Rattle.protocol.specs.Tables.{Model, partition, setPartition, setQueue, setUp, withBackpointers, withEntries, withLast, withRecords, noPartition as noPart, Partition as Part}
+use Rattle.tables.specs.Slots.{zeroBackpointer, zeroEntry, zeroRecord}
+use Rattle.tables.specs.View.{Stored, backpointersOf, entriesOf, messagesOf, noPartition, pack, packBackpointers, packEntries, packPartition, packQueue, packRecords, partitionAt, recordsOf, view, zeroPartition}
+use Rattle.tables.specs.declared.Backpointers.{Backpointers}
+use Rattle.tables.specs.declared.Entries.{Entries}
+use Rattle.tables.specs.declared.Partition.{Partition}
+use Rattle.tables.specs.declared.Queue.{Queue}
+use Rattle.tables.specs.declared.Records.{Records}
+use Rattle.tables.specs.declared.Tables.{Tables}
+use Rattle.lists.proofs.Fills.{take-pad}
+use Rattle.lists.proofs.Stores.{map-set, pad-set}
+
+-- a read within a list does not see what stands past its end
+getD-any : {A : Type 0} (l : List A) (i : ℕ) (d e : A) → i < length l → getD l i d ≡ getD l i e
+getD-any [] i d e h = absurd (omega arith)
+getD-any (x ∷ l) zero d e h = refl
+getD-any (x ∷ l) (suc i) d e h = getD-any l i d e (omega arith)
+
+getD-pad : {A : Type 0} (N : ℕ) (z d : A) (l : List A) (i : ℕ) → i < length l → getD (pad N z l) i d ≡ getD l i d
+getD-pad N z d l i h = sym (getD-take (length l) (pad N z l) i d h) ∙ ap (λ (k : List _). getD k i d) (take-pad N z l)
+
+module _ (t : Tables) (p : ℕ) (s : Stored t p) where
+  abbrev m : Model
+  m = view t
+
+  pub counted : length (m .partitions) ≡ t .count
+  unfolding pack
+  counted = ap (λ (u : Tables). u .count) (s .packed)
+
+  within : p < length (m .partitions)
+  within = rw counted (s .inside)
+
+  -- partition p is the stored form of the model's
+  pub partition-stored : partitionAt t p ≡ packPartition (partition m p)
+  unfolding pack partition
+  partition-stored =
+      let l : List Partition = map packPartition (m .partitions) in
+      let h : p < length l = rw (length-map (m .partitions) packPartition) within in
+      ap (λ (u : Tables). getD (u .partitions) p noPartition) (sym (s .packed))
+      ∙ getD-pad maxPartitions zeroPartition noPartition l p h
+      ∙ getD-any l p noPartition (packPartition noPart) h
+      ∙ List·getD-map packPartition (m .partitions) p noPart
+
+  -- after a store of a partition in its stored form
+  set-stored : (x : Partition) (y : Part) → packPartition y ≡ x
+      → record { count = t .count; partitions = set (t .partitions) p x; queues = t .queues } ≡ pack (setPartition m p y)
+  unfolding pack setPartition
+  set-stored x y e =
+      let a : t .count ≡ length (set (m .partitions) p y) = sym (length-set (m .partitions) p y ∙ counted) in
+      let l : t .partitions ≡ pad maxPartitions zeroPartition (map packPartition (m .partitions)) = ap (λ (u : Tables). u .partitions) (sym (s .packed)) in
+      let b : set (t .partitions) p x ≡ pad maxPartitions zeroPartition (map packPartition (set (m .partitions) p y)) =
+      ap₂ (λ (k : List Partition) (z : Partition). set k p z) l (sym e)
+      ∙ sym (pad-set maxPartitions zeroPartition (map packPartition (m .partitions)) p (packPartition y) (rw (length-map (m .partitions) packPartition) within))
+      ∙ ap (pad maxPartitions zeroPartition) (sym (map-set packPartition (m .partitions) p y))
+      in
+      let c : t .queues ≡ map packQueue (m .queues) = ap (λ (u : Tables). u .queues) (sym (s .packed)) in
+      λ i. record { count = a i; partitions = b i; queues = c i }
+
+  -- one law for each thing of a partition that is stored; x is the partition that was read
+  module _ (x : Partition) (e : x ≡ partitionAt t p) where
+    read : x ≡ packPartition (partition m p)
+    read = e ∙ partition-stored
+
+    abbrev Stores : Partition → Part → Type 0
+    Stores y z = record { count = t .count; partitions = set (t .partitions) p y; queues = t .queues } ≡ pack (setPartition m p z)
+
+    pub stored-entries : (l : Entries) → packEntries (entriesOf l) ≡ l
+        → Stores (record { up = x .up; last = x .last; entries = l; backpointers = x .backpointers; records = x .records }) (withEntries (partition m p) (entriesOf l))
+    stored-entries l h = set-stored _ _ (rw (read, h) refl)
+
+    pub stored-backpointers : (l : Backpointers) → packBackpointers (backpointersOf l) ≡ l
+        → Stores (record { up = x .up; last = x .last; entries = x .entries; backpointers = l; records = x .records }) (withBackpointers (partition m p) (backpointersOf l))
+    stored-backpointers l h = set-stored _ _ (rw (read, h) refl)
+
+    pub stored-records : (l : Records) → packRecords (recordsOf l) ≡ l
+        → Stores (record { up = x .up; last = x .last; entries = x .entries; backpointers = x .backpointers; records = l }) (withRecords (partition m p) (recordsOf l))
+    stored-records l h = set-stored _ _ (rw (read, h) refl)
+
+    pub stored-last : (n : ℕ) → Stores (record { up = x .up; last = n; entries = x .entries; backpointers = x .backpointers; records = x .records }) (withLast n (partition m p))
+    stored-last n = set-stored _ _ (rw read refl)
+
+    pub stored-up : (u : Bool)
+        → record { count = t .count; partitions = set (t .partitions) p (record { up = u; last = x .last; entries = x .entries; backpointers = x .backpointers; records = x .records }); queues = t .queues } ≡ pack (setUp m p u)
+    unfolding setUp
+    stored-up u = set-stored _ _ (rw read refl)
+
+    -- what was read is in its stored form
+    pub entries-stored : packEntries (entriesOf (x .entries)) ≡ x .entries
+    entries-stored = rw (ap (λ (y : Partition). y .entries) read) (ap packEntries (take-pad maxEntries zeroEntry (partition m p .entries)))
+
+    pub backpointers-stored : packBackpointers (backpointersOf (x .backpointers)) ≡ x .backpointers
+    backpointers-stored = rw (ap (λ (y : Partition). y .backpointers) read) (ap packBackpointers (take-pad maxBackpointers zeroBackpointer (partition m p .backpointers)))
+
+    pub records-stored : packRecords (recordsOf (x .records)) ≡ x .records
+    records-stored = rw (ap (λ (y : Partition). y .records) read) (ap packRecords (take-pad maxRecords zeroRecord (partition m p .records)))
+
+-- a queue
+pub stored-queue : (t : Tables) (s r : ℕ) → Stored t s → Stored t r → (q : Queue) → packQueue (messagesOf q) ≡ q
+    → record { count = t .count; partitions = t .partitions; queues = set (t .queues) (s * maxPartitions + r) q } ≡ pack (setQueue (view t) s r (messagesOf q))
+unfolding pack setQueue
+stored-queue t s r a b q e =
+    let c : set (t .queues) (s * maxPartitions + r) q ≡ map packQueue (set (view t .queues) (s * maxPartitions + r) (messagesOf q)) =
+    ap₂ (λ (k : List Queue) (z : Queue). set k (s * maxPartitions + r) z) (ap (λ (u : Tables). u .queues) (sym (a .packed))) (sym e)
+    ∙ sym (map-set packQueue (view t .queues) (s * maxPartitions + r) (messagesOf q))
+    in
+    λ i. record { count = sym (counted t s a) i; partitions = ap (λ (u : Tables). u .partitions) (sym (a .packed)) i; queues = c i }
