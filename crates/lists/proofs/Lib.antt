@@ -15,3 +15,5 @@ pub mod Stores
 pub mod Arrays
 pub mod Finds
 pub mod Images
+pub mod Alls
+pub mod Backs

@@ -1,0 +1,4 @@
+pub mod Rows
+pub mod Picture
+pub mod Lone
+pub mod Store
