@@ -5,3 +5,7 @@ pub mod RoundTrip
 pub mod InOrder
 pub mod Loads
 pub mod Lengths
+pub mod Ways
+pub mod Sectioned
+pub mod Decodes
+pub mod Fields

@@ -1,4 +1,5 @@
 pub mod Rows
 pub mod Picture
+pub mod Answers
 pub mod Lone
 pub mod Store

@@ -1,8 +1,79 @@
-// The picture of one partition's stable tables (document 01, 'The picture').
+// The picture of one partition's stable tables (document 01, 'The picture'): read, written and checked record by record.
+use names::Name;
+use protocol::Backpointer;
+use protocol::Entry;
+use protocol::Record;
+use protocol::Refusal;
+use tables::Backpointers;
+use tables::Entries;
+use tables::Partition;
+use tables::Records;
+
+mod bytes; // numbers, names and marks at a place of a slice
+pub mod decode; // one record of each kind, from its start
+
+// The letters of the marks.
+pub const B: u8 = 66;
+
+pub const D: u8 = 68;
+
+pub const E: u8 = 69;
+
+pub const G: u8 = 71;
+
+pub const H: u8 = 72;
+
+pub const L: u8 = 76;
+
+pub const N: u8 = 78;
+
+pub const P: u8 = 80;
+
+// How many bytes each kind of record has, its mark among them.
+pub const HEAD_SIZE: usize = 8;
+
+pub const ENTRY_SIZE: usize = 18;
+
+pub const BACKPOINTER_SIZE: usize = 18;
+
+pub const RECORD_SIZE: usize = 19;
+
+pub const CLOSE_SIZE: usize = 4;
 
 // The header: which partition, of how many, and the last number that it gave.
 pub struct Head {
     pub partition: u8,
     pub count: u8,
     pub last: u32,
+}
+
+// In what every record between header and close ends: three bytes, a name and a number.
+pub struct Item {
+    pub a: u8,
+    pub b: u8,
+    pub c: u8,
+    pub name: Name,
+    pub number: u32,
+}
+
+// A header, or its refusal.
+pub struct HeadRead {
+    pub refusal: Refusal,
+    pub head: Head,
+}
+
+// A record, or its refusal and a zero one.
+pub struct EntryRead {
+    pub refusal: Refusal,
+    pub entry: Entry,
+}
+
+pub struct BackpointerRead {
+    pub refusal: Refusal,
+    pub backpointer: Backpointer,
+}
+
+pub struct RecordRead {
+    pub refusal: Refusal,
+    pub record: Record,
 }
