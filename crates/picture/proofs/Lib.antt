@@ -9,3 +9,4 @@ pub mod Ways
 pub mod Sectioned
 pub mod Decodes
 pub mod Fields
+pub mod Gathers

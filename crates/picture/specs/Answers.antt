@@ -1,16 +1,16 @@
 -- What the functions that read answer, by the definitions of `Rows` and `Picture`.
 use mathlib.Core.Path.{_≡_}
 use mathlib.Core.Bool.{Bool, true, false}
-use mathlib.Core.List.{List}
-use Prim.Native.Nat.{ℕ}
-use lib.ListN.{length, drop}
-use Rattle.lists.specs.Lists.{pick}
+use mathlib.Core.List.{List, []}
+use Prim.Native.Nat.{ℕ, _≤_}
+use lib.ListN.{length, take, drop}
+use Rattle.lists.specs.Lists.{pick, pad}
 use Rattle.protocol.specs.declared.Refusal.{Refusal}
 use Rattle.protocol.specs.declared.Refusal.the-variants.{Accepted}
 use Rattle.protocol.specs.Elements.{isAccepted}
 use Rattle.picture.specs.declared.Head.{Head}
 use Rattle.picture.specs.declared.Item.{Item}
-use Rattle.picture.specs.Rows.{Read, fail, more}
+use Rattle.picture.specs.Rows.{Row, Read, fail, more, many}
 use Rattle.picture.specs.Picture.{ItemFields}
 
 abbrev pub itemOf : Item → ItemFields
@@ -38,3 +38,11 @@ module _ {A : Type 0} where
     pub refusal : why ≡ refusalOf R
     pub value : x ≡ readOr z R
     pub reading : told size bs why x ≡ R
+
+module _ {A : Type 0} where
+  -- the records of one kind, from a place on, in an array: they tell of the reading, the other places hold z, and `at` is behind them
+  pub record Gathered (w : Row A) (t : A → Bool) (cap : ℕ) (z : A) (bs : List ℕ) (from : ℕ) (why : Refusal) (at count : ℕ) (items : List A) : Type 0 where
+    pub reading : told at bs why (take count items) ≡ many w (λ earlier. t) cap [] (drop from bs)
+    pub filled : items ≡ pad cap z (take count items)
+    pub place : at ≤ length bs
+    pub bound : count ≤ cap

@@ -11,6 +11,8 @@ use tables::Records;
 
 mod bytes; // numbers, names and marks at a place of a slice
 pub mod decode; // one record of each kind, from its start
+mod numbers; // the numbers of refusals
+mod sections; // all records of one kind, from a place on
 
 // The letters of the marks.
 pub const B: u8 = 66;
@@ -76,4 +78,23 @@ pub struct BackpointerRead {
 pub struct RecordRead {
     pub refusal: Refusal,
     pub record: Record,
+}
+
+// The records of one kind from a place on, and the place behind them; or their refusal, and none.
+pub struct EntriesRead {
+    pub refusal: Refusal,
+    pub at: usize,
+    pub entries: Entries,
+}
+
+pub struct BackpointersRead {
+    pub refusal: Refusal,
+    pub at: usize,
+    pub backpointers: Backpointers,
+}
+
+pub struct RecordsRead {
+    pub refusal: Refusal,
+    pub at: usize,
+    pub records: Records,
 }
