@@ -1,5 +1,5 @@
 pub mod Rounds
-pub mod Whole
+pub mod Tabular
 pub mod Forms
 pub mod RoundTrip
 pub mod InOrder
@@ -10,3 +10,5 @@ pub mod Sectioned
 pub mod Decodes
 pub mod Fields
 pub mod Gathers
+pub mod Closes
+pub mod Pictures

@@ -10,14 +10,14 @@ use Rattle.lists.specs.Lists.{all, every}
 use Rattle.protocol.specs.Tables.{withUp}
 use Rattle.protocol.specs.declared.Refusal.the-variants.{CountWrong, FieldOutOfRange}
 use Rattle.codec.specs.Codec.{isByte, word}
-use Rattle.picture.specs.Picture.{BP, ED, EN, Edition, HD, Items, LG, Picture, closed, ended, headFits, headOf, itemsOf, pictureFrom, put, read, readTables, sections, write}
+use Rattle.picture.specs.Picture.{BP, ED, EN, Edition, HD, Items, LG, Picture, closing, ended, headFits, headOf, itemsOf, pictureFrom, put, read, readTables, sections, write}
 use Rattle.picture.specs.Rows.{counted, fitting, more, next, one, putRow, putTable, readTable}
 use Rattle.picture.specs.declared.Head.{Head}
 use Rattle.lists.proofs.Tests.{_also_, done, every-at, every-of, not-false}
 use Rattle.protocol.proofs.Look.{at}
 use Rattle.picture.proofs.Forms.{lawful-BP, lawful-ED, lawful-EN, lawful-HD, lawful-LG}
 use Rattle.picture.proofs.Rounds.{next-more, one-only, one-reads}
-use Rattle.picture.proofs.Whole.{Lawfuls, counted-most, foreign, marksApart, rest-bytes, rooms, table-only, table-reads}
+use Rattle.picture.proofs.Tabular.{Lawfuls, counted-most, foreign, marksApart, rest-bytes, rooms, table-only, table-reads}
 
 lawfuls : (v : Edition) → Lawfuls (sections v)
 lawfuls v = (lawful-EN v, (lawful-BP v, (lawful-LG v, tt)))
@@ -37,9 +37,9 @@ few v h c f =
 
 -- ---- what is written is read
 
-closed-reads : (n : ℕ) (x : Picture) → ED .form .fine n ≡ true → closed n x (putRow ED n ++ []) ≡ more x []
-unfolding closed next ended
-closed-reads n x h = rw (one-reads ED lawful-ED CountWrong (eqb n) n [] h (eq-eqb n n refl))
+closing-reads : (n : ℕ) → ED .form .fine n ≡ true → closing n (putRow ED n ++ []) ≡ more n []
+unfolding closing next ended
+closing-reads n h = rw (one-reads ED lawful-ED CountWrong (eqb n) n [] h (eq-eqb n n refl))
 
 pub put-reads : (v : Edition) (h : Head) (c : Items v) → HD v .form .fine h ≡ true → headFits h ≡ true → fitting (sections v) h c ≡ true → read v (put v h c) ≡ more (pictureFrom v h c) []
 unfolding read readTables put next
@@ -47,26 +47,26 @@ put-reads v h c d e f =
     let n = counted (sections v) c in
     let a = one-reads (HD v) (lawful-HD v) FieldOutOfRange headFits h (putTable (sections v) c ++ putRow ED n) d e in
     let b = rw (append-nil (putRow ED n)) at (table-reads ED n (sections v) (lawfuls v) (marks v) h c [] f) in
-    let g = rw (append-nil (putRow ED n)) at (closed-reads n (pictureFrom v h c) (few v h c f)) in
-    rw a (rw b g)
+    let g = rw (append-nil (putRow ED n)) at (closing-reads n (few v h c f)) in
+    rw a (rw b (rw g))
 
 -- ---- no other bytes
 
-ended-only : (x : Picture) (q : List ℕ) (y : Picture) (r : List ℕ) → ended x q ≡ more y r → (q ≡ []) × (x ≡ y) × (r ≡ [])
+ended-only : (n : ℕ) (q : List ℕ) (m : ℕ) (r : List ℕ) → ended n q ≡ more m r → (q ≡ []) × (r ≡ [])
 unfolding ended
-ended-only x [] y r e = (refl, cc, cc)
-ended-only x (b ∷ q) y r e = let z : _≡_ {A = ℕ} 0 1 = cc in absurd (omega arith)
+ended-only n [] m r e = (refl, cc)
+ended-only n (b ∷ q) m r e = let z : _≡_ {A = ℕ} 0 1 = cc in absurd (omega arith)
 
-closed-back : (m n : ℕ) (bs q : List ℕ) → bs ≡ putRow ED n ++ q → q ≡ [] → m ≡ n → bs ≡ putRow ED m
-closed-back m n bs q e z i = e ∙ rw (z, append-nil (putRow ED n), i)
+closing-back : (m n : ℕ) (bs q : List ℕ) → bs ≡ putRow ED n ++ q → q ≡ [] → m ≡ n → bs ≡ putRow ED m
+closing-back m n bs q e z i = e ∙ rw (z, append-nil (putRow ED n), i)
 
-closed-only : (n : ℕ) (x : Picture) (bs : List ℕ) (y : Picture) (r : List ℕ) → all isByte bs ≡ true → closed n x bs ≡ more y r → (bs ≡ putRow ED n) × (x ≡ y) × (r ≡ [])
-unfolding closed
-closed-only n x bs y r a e =
-    let (m, q, f, g) = next-more (one ED CountWrong (eqb n) bs) _ y r e in
-    let w = one-only ED lawful-ED CountWrong (eqb n) bs m q a f in
-    let z = ended-only x q y r g in
-    (closed-back n m bs q (w .0) (z .0) (eqb-true n m (w .2)), z .1, z .2)
+closing-only : (n : ℕ) (bs : List ℕ) (m : ℕ) (r : List ℕ) → all isByte bs ≡ true → closing n bs ≡ more m r → (bs ≡ putRow ED n) × (r ≡ [])
+unfolding closing
+closing-only n bs m r a e =
+    let (k, q, f, g) = next-more (one ED CountWrong (eqb n) bs) _ m r e in
+    let w = one-only ED lawful-ED CountWrong (eqb n) bs k q a f in
+    let z = ended-only k q m r g in
+    (closing-back n k bs q (w .0) (z .0) (eqb-true n k (w .2)), z .1)
 
 -- the pictures that have bytes
 unfoldable pub showable : Edition → Picture → Bool
@@ -86,9 +86,12 @@ only-written v bs y r a e =
     let u = one-only (HD v) (lawful-HD v) FieldOutOfRange headFits bs h q a f in
     let b = rest-bytes bs (putRow (HD v) h) q a (u .0) in
     let w = table-only (sections v) (lawfuls v) h q c o b i in
-    let z = closed-only (counted (sections v) c) (pictureFrom v h c) o y r (rest-bytes q (putTable (sections v) c) o b (w .0)) j in
-    let t = assemble v h c y bs q o (z .1) (u .0) (w .0) (z .0) (u .1) (u .2) (w .1) in
-    (t .0, t .1, z .2)
+    let (n, d, k, l) = next-more (closing (counted (sections v) c) o) _ y r j in
+    let z = closing-only (counted (sections v) c) o n d (rest-bytes q (putTable (sections v) c) o b (w .0)) k in
+    let m : pictureFrom v h c ≡ y = cc in
+    let t = assemble v h c y bs q o m (u .0) (w .0) (z .0) (u .1) (u .2) (w .1) in
+    let x : d ≡ r = cc in
+    (t .0, t .1, sym x ∙ z .1)
 
 -- ---- the same of pictures
 

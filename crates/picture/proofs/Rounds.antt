@@ -65,7 +65,7 @@ module _ {A : Type 0} (w : Row A) (lawful : Lawful (w .form)) where
   unfolding one
   one-reads k t x r h i = rw (long-put x r, marked-put x r) (body-reads k t x r h i)
 
-  one-more : (k : Refusal) (t : A → Bool) (bs : List ℕ) (x : A) (r : List ℕ) (b c : Bool) → marked w bs ≡ c → pick b (fail EndsEarly) (pick c (body w k t bs) (fail MarkNotAllowed)) ≡ more x r → (marked w bs ≡ true) × (body w k t bs ≡ more x r)
+  pub one-more : (k : Refusal) (t : A → Bool) (bs : List ℕ) (x : A) (r : List ℕ) (b c : Bool) → marked w bs ≡ c → pick b (fail EndsEarly) (pick c (body w k t bs) (fail MarkNotAllowed)) ≡ more x r → (marked w bs ≡ true) × (body w k t bs ≡ more x r)
   one-more k t bs x r true c h e = let z : _≡_ {A = ℕ} 0 1 = cc in absurd (omega arith)
   one-more k t bs x r false true h e = (h, e)
   one-more k t bs x r false false h e = let z : _≡_ {A = ℕ} 0 1 = cc in absurd (omega arith)

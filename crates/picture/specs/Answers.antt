@@ -8,10 +8,15 @@ use Rattle.lists.specs.Lists.{pick, pad}
 use Rattle.protocol.specs.declared.Refusal.{Refusal}
 use Rattle.protocol.specs.declared.Refusal.the-variants.{Accepted}
 use Rattle.protocol.specs.Elements.{isAccepted}
+use Rattle.protocol.specs.Bounds.{maxEntries, maxBackpointers, maxRecords}
+use Rattle.protocol.specs.Tables.{noPartition}
+use Rattle.tables.specs.declared.Partition.{Partition as Stored}
+use Rattle.tables.specs.View.{entriesOf, backpointersOf, recordsOf, viewPartition, packPartition}
 use Rattle.picture.specs.declared.Head.{Head}
 use Rattle.picture.specs.declared.Item.{Item}
-use Rattle.picture.specs.Rows.{Row, Read, fail, more, many}
-use Rattle.picture.specs.Picture.{ItemFields}
+use Rattle.picture.specs.declared.PictureRead.{PictureRead}
+use Rattle.picture.specs.Rows.{Row, Read, fail, more, many, readTable}
+use Rattle.picture.specs.Picture.{Picture, ItemFields, Items, first, sections, headOf, pictureFrom, headSize, read}
 
 abbrev pub itemOf : Item → ItemFields
 itemOf i = (i .a, (i .b, (i .c, (i .name, i .number))))
@@ -46,3 +51,47 @@ module _ {A : Type 0} where
     pub filled : items ≡ pad cap z (take count items)
     pub place : at ≤ length bs
     pub bound : count ≤ cap
+
+-- ---- the tables of a picture, as the code stores them
+
+abbrev pub itemsIn : Stored → Items first
+itemsIn x = (entriesOf (x .entries), (backpointersOf (x .backpointers), (recordsOf (x .records), tt)))
+
+-- each count is within its bound
+pub record Counted (x : Stored) : Type 0 where
+  pub entries : x .entries .count ≤ maxEntries
+  pub backpointers : x .backpointers .count ≤ maxBackpointers
+  pub records : x .records .count ≤ maxRecords
+
+-- the sections behind a header: they tell of the reading, and are stored as the tables that they show; a refusal leaves none
+pub record Tabled (bs : List ℕ) (h : Head) (why : Refusal) (at : ℕ) (x : Stored) : Type 0 where
+  pub reading : told at bs why (itemsIn x) ≡ readTable (sections first) h (drop headSize bs)
+  pub stored : x ≡ packPartition (pick (isAccepted why) (pictureFrom first h (itemsIn x) .tables) noPartition)
+  pub place : at ≤ length bs
+  pub counted : Counted x
+
+-- the close of a picture of n records
+unfoldable pub toldClose : ℕ → Refusal → Read ℕ
+toldClose n why = pick (isAccepted why) (more n []) (fail why)
+
+-- ---- a whole picture
+
+unfoldable pub noPicture : Picture
+noPicture = record { partition = 0; count = 0; tables = noPartition }
+
+-- what is read, stored; where it is refused, the picture of nothing
+abbrev pub pictureRead : Read Picture → PictureRead
+pictureRead R =
+    record { refusal = refusalOf R; head = headOf (readOr noPicture R); tables = packPartition (readOr noPicture R .tables) }
+
+-- and back
+unfoldable pub toldPicture : PictureRead → Read Picture
+toldPicture r =
+    pick (isAccepted (r .refusal))
+    (more (record { partition = r .head .partition; count = r .head .count; tables = viewPartition (r .tables) }) [])
+    (fail (r .refusal))
+
+pub record Pictured (bs : List ℕ) (r : PictureRead) : Type 0 where
+  pub answer : r ≡ pictureRead (read first bs)
+  pub telling : toldPicture r ≡ read first bs
+  pub counted : Counted (r .tables)

@@ -219,18 +219,23 @@ write v x = put v (headOf x) (itemsOf v x)
 
 -- ---- read: header, tables, close; "After ED: 20, 21"
 
-unfoldable pub ended : Picture → List ℕ → Read Picture
-ended x [] = more x []
-ended x (b ∷ bs) = fail BytesAfterClose
+unfoldable pub ended : ℕ → List ℕ → Read ℕ
+ended n [] = more n []
+ended n (b ∷ bs) = fail BytesAfterClose
 
-unfoldable pub closed : (n : ℕ) → Picture → List ℕ → Read Picture
-closed n x bs = next (one ED CountWrong (eqb n) bs) (λ m r. ended x r)
+unfoldable pub closing : ℕ → List ℕ → Read ℕ
+closing n bs = next (one ED CountWrong (eqb n) bs) ended
 
 unfoldable pub readTables : Edition → Head → List ℕ → Read Picture
-readTables v h bs = next (readTable (sections v) h bs) (λ c r. closed (counted (sections v) c) (pictureFrom v h c) r)
+readTables v h bs =
+    next (readTable (sections v) h bs) (λ c r. next (closing (counted (sections v) c) r) (λ n q. more (pictureFrom v h c) q))
 
 unfoldable pub read : Edition → List ℕ → Read Picture
 read v bs = next (one (HD v) FieldOutOfRange headFits bs) (λ h r. readTables v h r)
+
+-- "(8 bytes in all)"
+abbrev pub headSize : ℕ
+headSize = 8
 
 -- "The largest is 2,620 bytes."
 abbrev pub largestPicture : ℕ

@@ -13,6 +13,10 @@ mod bytes; // numbers, names and marks at a place of a slice
 pub mod decode; // one record of each kind, from its start
 mod numbers; // the numbers of refusals
 mod sections; // all records of one kind, from a place on
+mod whole; // a whole picture
+
+pub use numbers::refusal_number;
+pub use whole::read_picture;
 
 // The letters of the marks.
 pub const B: u8 = 66;
@@ -97,4 +101,18 @@ pub struct RecordsRead {
     pub refusal: Refusal,
     pub at: usize,
     pub records: Records,
+}
+
+// The records of every kind behind a header, and the place behind them; or their refusal, and none.
+pub struct TablesRead {
+    pub refusal: Refusal,
+    pub at: usize,
+    pub tables: Partition,
+}
+
+// What a picture shows: whose tables, of how many partitions, and they, down and with records ready. Or its refusal, and nothing.
+pub struct PictureRead {
+    pub refusal: Refusal,
+    pub head: Head,
+    pub tables: Partition,
 }
