@@ -7,20 +7,21 @@ use native.Mathlib.Omega.{arith}
 use lib.Dec.{eqb, leb, ltb}
 use lib.ListN.{drop, getD, length, length-drop, take}
 use lib.Seq.{drop-drop}
-use borrow.Author.Tests.{eq-eqb, le-leb, le-ltb, lt-leb, lt-ltb, ne-eqb}
+use borrow.Author.Tests.{eq-eqb, le-leb, lt-leb, ne-eqb}
 use Rattle.lists.specs.Lists.{every, pad}
-use Rattle.names.specs.Names.{goodName, nameBytes}
+use Rattle.names.specs.Names.{nameBytes}
 use Rattle.names.specs.Text.{bytes}
 use Rattle.names.specs.declared.Name.{Name}
-use Rattle.protocol.specs.Bounds.{directories, maxPartitions, objects}
+use Rattle.protocol.specs.Bounds.{maxPartitions}
 use Rattle.protocol.specs.declared.Backpointer.{Backpointer}
 use Rattle.protocol.specs.declared.Entry.{Entry}
 use Rattle.protocol.specs.declared.Kind.{Kind}
 use Rattle.protocol.specs.declared.Kind.the-variants.{Create, Link, Unlink}
 use Rattle.protocol.specs.declared.Record.{Record}
 use Rattle.protocol.specs.declared.Stage.the-variants.{Ready}
+use Rattle.order.specs.Clauses.{backpointerAmong, entryAmong, given, recordAmong}
 use Rattle.codec.specs.Codec.{after, always, bad, both, byte, get4, got, long, run, then, those, via}
-use Rattle.picture.specs.Picture.{BP, ED, EN, HD, LG, backpointerFits, entryFits, first, headFits, isKind, itemForm, kindOf, letterB, letterD, letterE, letterG, letterH, letterL, letterN, letterP, nameForm, numbered, placed, recordFits}
+use Rattle.picture.specs.Picture.{BP, ED, EN, HD, LG, backpointerFits, entryFits, first, headFits, isKind, itemForm, kindOf, letterB, letterD, letterE, letterG, letterH, letterL, letterN, letterP, nameForm, recordFits}
 use Rattle.picture.specs.Rows.{begins, marked}
 use Rattle.picture.specs.declared.Head.{Head}
 use Rattle.protocol.proofs.Look.{at}
@@ -151,31 +152,6 @@ module _ (k : ℕ) where
 
 -- ---- the tests
 
-module _ (h : Head) (d p o : ℕ) (n : Name) where
-  pub placed-directory : directories ≤ d → false ≡ placed h d p o n
-  unfolding placed every
-  placed-directory e = simp (le-ltb _ _ e)
-
-  pub placed-partition : d < directories → h .count ≤ p → false ≡ placed h d p o n
-  unfolding placed every
-  placed-partition e f = simp (lt-ltb _ _ e, le-ltb _ _ f)
-
-  pub placed-object : d < directories → p < h .count → objects ≤ o → false ≡ placed h d p o n
-  unfolding placed every
-  placed-object e f g = simp (lt-ltb _ _ e, lt-ltb _ _ f, le-ltb _ _ g)
-
-  pub placed-name : (b : Bool) → d < directories → p < h .count → o < objects → b ≡ goodName n → b ≡ placed h d p o n
-  unfolding placed every
-  placed-name b e f g i = i ∙ simp (lt-ltb _ _ e, lt-ltb _ _ f, lt-ltb _ _ g, and-true)
-
-pub numbered-none : (h : Head) (k : ℕ) → k < 1 → false ≡ numbered h k
-unfolding numbered
-numbered-none h k e = simp (lt-leb _ _ e)
-
-pub numbered-some : (h : Head) (k : ℕ) → 1 ≤ k → leb k (h .last) ≡ numbered h k
-unfolding numbered
-numbered-some h k e = simp (le-leb _ _ e)
-
 module _ (h : Head) where
   pub head-none : h .count < 1 → false ≡ headFits h
   unfolding headFits every
@@ -191,28 +167,28 @@ module _ (h : Head) where
 
 -- one test, and then another
 module _ (h : Head) (b : Bool) where
-  pub entry-not : (e : Entry) → b ≡ placed h (e .directory) (e .partition) (e .object) (e .name) → b ≡ false → false ≡ entryFits h e
+  pub entry-not : (e : Entry) → b ≡ entryAmong (h .count) e → b ≡ false → false ≡ entryFits h e
   unfolding entryFits
   entry-not e p q = simp (← p, q)
 
-  pub entry-then : (e : Entry) (c : Bool) → b ≡ placed h (e .directory) (e .partition) (e .object) (e .name) → b ≡ true → c ≡ numbered h (e .number) → c ≡ entryFits h e
+  pub entry-then : (e : Entry) (c : Bool) → b ≡ entryAmong (h .count) e → b ≡ true → c ≡ given (h .last) (e .number) → c ≡ entryFits h e
   unfolding entryFits
   entry-then e c p q r = r ∙ simp (← p, q)
 
-  pub backpointer-not : (e : Backpointer) → b ≡ placed h (e .directory) (e .parent) (e .object) (e .name) → b ≡ false → false ≡ backpointerFits h e
+  pub backpointer-not : (e : Backpointer) → b ≡ backpointerAmong (h .count) e → b ≡ false → false ≡ backpointerFits h e
   unfolding backpointerFits
   backpointer-not e p q = simp (← p, q)
 
-  pub backpointer-then : (e : Backpointer) → b ≡ placed h (e .directory) (e .parent) (e .object) (e .name) → b ≡ true → leb 1 (e .number) ≡ backpointerFits h e
+  pub backpointer-then : (e : Backpointer) → b ≡ backpointerAmong (h .count) e → b ≡ true → leb 1 (e .number) ≡ backpointerFits h e
   unfolding backpointerFits
   backpointer-then e p q = simp (← p, q)
 
-  pub record-not : (e : Record) → b ≡ placed h (e .directory) (e .partition) (e .object) (e .name) → b ≡ false → false ≡ recordFits h e
+  pub record-not : (e : Record) → b ≡ recordAmong (h .count) e → b ≡ false → false ≡ recordFits h e
   unfolding recordFits
   record-not e p q = simp (← p, q)
 
-  pub record-then : (e : Record) (c : Bool) → b ≡ placed h (e .directory) (e .partition) (e .object) (e .name) → b ≡ true → c ≡ numbered h (e .number) → c ≡ recordFits h e
+  pub record-then : (e : Record) (c : Bool) → b ≡ recordAmong (h .count) e → b ≡ true → c ≡ given (h .last) (e .number) → c ≡ recordFits h e
   unfolding recordFits
   record-then e c p q r = r ∙ simp (← p, q)
 
-pub ruleset fieldTests = (placed-directory, placed-partition, placed-object, placed-name, numbered-none, numbered-some, head-none, head-past, head-some, entry-not, entry-then, backpointer-not, backpointer-then, record-not, record-then)
+pub ruleset fieldTests = (head-none, head-past, head-some, entry-not, entry-then, backpointer-not, backpointer-then, record-not, record-then)

@@ -21,8 +21,9 @@ use Rattle.protocol.specs.declared.Kind.{Kind}
 use Rattle.protocol.specs.declared.Kind.the-variants.{Create, Link, Unlink}
 use Rattle.protocol.specs.declared.Record.{Record}
 use Rattle.protocol.specs.declared.Stage.the-variants.{Ready}
+use Rattle.order.specs.Clauses.{backpointerAmong, entryAmong, given, placedAmong, recordAmong}
 use Rattle.codec.specs.Codec.{byte, isByte, long, run, then, those, via}
-use Rattle.picture.specs.Picture.{BP, EN, Edition, HD, LG, backpointerFits, entryFits, first, headFits, headOf, isKind, itemForm, nameForm, numbered, pictureOf, placed, read, recordFits, write}
+use Rattle.picture.specs.Picture.{BP, EN, Edition, HD, LG, backpointerFits, entryFits, first, headFits, headOf, isKind, itemForm, nameForm, pictureOf, read, recordFits, write}
 use Rattle.picture.specs.Rows.{Row, fits, fitting, more}
 use Rattle.picture.specs.declared.Head.{Head}
 use Rattle.lists.proofs.Alls.{all-drop, all-map}
@@ -103,9 +104,9 @@ module _ (v : Edition) (enough : Holds v) (m : Model) (p : ℕ) (o : inOrder m �
   unfolding partitionInRange
   last-most q l = leb-true _ _ (every-at _ (in-range q l) 0)
 
-  given : numbersGiven m x ≡ true
+  numbers : numbersGiven m x ≡ true
   unfolding O4
-  given = and-right (backpointersApart x) _ (below-at _ _ o4 p here)
+  numbers = and-right (backpointersApart x) _ (below-at _ _ o4 p here)
 
   within : (y : Partition) (n : ℕ) → givenBy y n ≡ true → (leb 1 n ≡ true) × (n ≤ y .last)
   unfolding givenBy
@@ -129,25 +130,24 @@ module _ (v : Edition) (enough : Holds v) (m : Model) (p : ℕ) (o : inOrder m �
     named : nameForm v .fine s ≡ true
     named = name-fine v enough s (and-right (inRange m d q b) _ e)
 
-    is-placed : placed h d q b s ≡ true
-    unfolding inRange placed pictureOf
-    is-placed = every-of _ (every-at _ ranges 0 also every-at _ ranges 1 also every-at _ ranges 2 also and-right (inRange m d q b) _ e also done)
+    among : placedAmong (partitionCount m) d q b ≡ true
+    unfolding inRange placedAmong
+    among = ranges
 
-  is-numbered : (n : ℕ) → givenBy x n ≡ true → numbered h n ≡ true
-  unfolding givenBy numbered pictureOf
-  is-numbered n e = e
+    named-well : goodName s ≡ true
+    named-well = and-right (inRange m d q b) _ e
 
   entry-ok : (e : Entry) → entryInRange m e ≡ true → givenBy x (e .number) ≡ true → EN v .form .fine e && entryFits h e ≡ true
-  unfolding EN via entryFits
+  unfolding EN via entryFits entryAmong given givenBy pictureOf
   entry-ok e r g =
       let s = small (e .directory) (e .partition) (e .object) (e .name) r in
       let n : e .number ≤ largestNumber = omega (arith, within x (e .number) g .1, last-most p here) in
       both-true
       (item-fine v (e .directory) (e .partition) (e .object) (e .number) (e .name) (s .0) (byte-count (e .directory) (e .partition) (e .object) (e .name) r) (s .2) (named (e .directory) (e .partition) (e .object) (e .name) r) n)
-      (both-true (is-placed (e .directory) (e .partition) (e .object) (e .name) r) (is-numbered (e .number) g))
+      (both-true (both-true (among (e .directory) (e .partition) (e .object) (e .name) r) (named-well (e .directory) (e .partition) (e .object) (e .name) r)) g)
 
   record-ok : (r : Record) → recordInRange m r ≡ true → givenBy x (r .number) ≡ true → LG v .form .fine (inStage Ready r) && recordFits h (inStage Ready r) ≡ true
-  unfolding LG via those then byte recordFits
+  unfolding LG via those then byte recordFits recordAmong given givenBy pictureOf
   record-ok r e g =
       let u : inRange m (r .directory) (r .partition) (r .object) && goodName (r .name) ≡ true = both-true (and-left (inRange m (r .directory) (r .partition) (r .object)) _ e) (and-left (goodName (r .name)) _ (and-right (inRange m (r .directory) (r .partition) (r .object)) _ e)) in
       let s = small (r .directory) (r .partition) (r .object) (r .name) u in
@@ -155,7 +155,7 @@ module _ (v : Edition) (enough : Holds v) (m : Model) (p : ℕ) (o : inOrder m �
       let f = item-fine v (r .directory) (r .partition) (r .object) (r .number) (r .name) (s .0) (byte-count (r .directory) (r .partition) (r .object) (r .name) u) (s .2) (named (r .directory) (r .partition) (r .object) (r .name) u) n in
       both-true
       (both-true (is-kind (r .kind)) (both-true (kind-byte (r .kind)) f))
-      (both-true (is-placed (r .directory) (r .partition) (r .object) (r .name) u) (is-numbered (r .number) g))
+      (both-true (both-true (among (r .directory) (r .partition) (r .object) (r .name) u) (both-true (named-well (r .directory) (r .partition) (r .object) (r .name) u) refl)) g)
     where
       is-kind : (k : Kind) → isKind (kindNumber k) ≡ true
       is-kind Link = refl
@@ -168,27 +168,27 @@ module _ (v : Edition) (enough : Holds v) (m : Model) (p : ℕ) (o : inOrder m �
       kind-byte Unlink = refl
 
   backpointer-ok : (b : Backpointer) → backpointerInRange m b ≡ true → givenBy (partition m (b .parent)) (b .number) ≡ true → BP v .form .fine b && backpointerFits h b ≡ true
-  unfolding BP via backpointerFits
+  unfolding BP via backpointerFits backpointerAmong pictureOf
   backpointer-ok b r g =
       let s = small (b .directory) (b .parent) (b .object) (b .name) r in
       let n : b .number ≤ largestNumber = omega (arith, within (partition m (b .parent)) (b .number) g .1, last-most (b .parent) (s .1)) in
       both-true
       (item-fine v (b .object) (b .parent) (b .directory) (b .number) (b .name) (s .2) (byte-count (b .directory) (b .parent) (b .object) (b .name) r) (s .0) (named (b .directory) (b .parent) (b .object) (b .name) r) n)
-      (both-true (is-placed (b .directory) (b .parent) (b .object) (b .name) r) (within (partition m (b .parent)) (b .number) g .0))
+      (both-true (both-true (among (b .directory) (b .parent) (b .object) (b .name) r) (named-well (b .directory) (b .parent) (b .object) (b .name) r)) (within (partition m (b .parent)) (b .number) g .0))
 
   entries-ok : all (λ e. EN v .form .fine e && entryFits h e) (x .entries) ≡ true
   unfolding partitionInRange numbersGiven
-  entries-ok = all-true _ (x .entries) (λ e j. entry-ok e (all-get _ (x .entries) (every-at _ (in-range p here) 4) e j) (all-get _ (x .entries) (every-at _ given 0) e j))
+  entries-ok = all-true _ (x .entries) (λ e j. entry-ok e (all-get _ (x .entries) (every-at _ (in-range p here) 4) e j) (all-get _ (x .entries) (every-at _ numbers 0) e j))
 
   backpointers-ok : all (λ b. BP v .form .fine b && backpointerFits h b) (x .backpointers) ≡ true
   unfolding partitionInRange numbersGiven
-  backpointers-ok = all-true _ (x .backpointers) (λ b j. backpointer-ok b (all-get _ (x .backpointers) (every-at _ (in-range p here) 5) b j) (all-get _ (x .backpointers) (every-at _ given 2) b j))
+  backpointers-ok = all-true _ (x .backpointers) (λ b j. backpointer-ok b (all-get _ (x .backpointers) (every-at _ (in-range p here) 5) b j) (all-get _ (x .backpointers) (every-at _ numbers 2) b j))
 
   records-ok : all (λ r. LG v .form .fine r && recordFits h r) (map (inStage Ready) (x .records)) ≡ true
   unfolding partitionInRange numbersGiven
   records-ok =
       all-map _ (inStage Ready) (x .records)
-      ∙ all-true _ (x .records) (λ r j. record-ok r (all-get _ (x .records) (every-at _ (in-range p here) 6) r j) (all-get _ (x .records) (every-at _ given 1) r j))
+      ∙ all-true _ (x .records) (λ r j. record-ok r (all-get _ (x .records) (every-at _ (in-range p here) 6) r j) (all-get _ (x .records) (every-at _ numbers 1) r j))
 
   head-fine : (HD v .form .fine h ≡ true) × (headFits h ≡ true)
   unfolding HD via then byte long headFits pictureOf O1

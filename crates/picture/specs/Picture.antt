@@ -5,7 +5,7 @@ use Prim.Native.Nat.{ℕ}
 use lib.Dec.{eqb, leb, ltb}
 use lib.ListN.{take}
 use Rattle.lists.specs.Lists.{pick, every, pad}
-use Rattle.names.specs.Names.{nameBytes, sameBytes, goodName}
+use Rattle.names.specs.Names.{nameBytes, sameBytes}
 use Rattle.names.specs.declared.Name.{Name}
 use Rattle.codec.specs.Codec.{Codec, byte, word, long, run, then, both, those, via, always}
 use Rattle.protocol.specs.declared.Kind.{Kind}
@@ -17,7 +17,8 @@ use Rattle.protocol.specs.declared.Record.{Record}
 use Rattle.protocol.specs.declared.Refusal.the-variants.{FieldOutOfRange, CountWrong, BytesAfterClose}
 use Rattle.protocol.specs.Bounds.{maxPartitions, maxEntries, maxBackpointers, maxRecords}
 use Rattle.protocol.specs.Elements.{kindNumber, isReady}
-use Rattle.protocol.specs.Tables.{Partition, Model, partitionCount, isDirectory, isObject, partition, inStage}
+use Rattle.protocol.specs.Tables.{Partition, Model, partitionCount, partition, inStage}
+use Rattle.order.specs.Clauses.{entryAmong, backpointerAmong, recordAmong, given}
 use Rattle.picture.specs.declared.Head.{Head}
 use Rattle.picture.specs.Rows.{Row, putRow, Read, fail, more, next, one, Section, Table, close, _before_, Contents, putTable, readTable, counted, fitting}
 
@@ -142,28 +143,21 @@ LG v =
 unfoldable pub ED : Row ℕ
 ED = record { first = letterE; second = letterD; form = word }
 
--- ---- the tests of a record's fields
+-- ---- the tests of a record's fields: directory, object and name in their ranges, and the number
 
 unfoldable pub headFits : Head → Bool
 headFits h = every (leb 1 (h .count) ∷ leb (h .count) maxPartitions ∷ ltb (h .partition) (h .count) ∷ [])
 
--- directory, object and name in their ranges
-unfoldable pub placed : Head → ℕ → ℕ → ℕ → Name → Bool
-placed h d q o s = every (isDirectory d ∷ ltb q (h .count) ∷ isObject o ∷ goodName s ∷ [])
-
 -- "EN and LG numbers are 1 to the last"
-unfoldable pub numbered : Head → ℕ → Bool
-numbered h n = leb 1 n && leb n (h .last)
-
 unfoldable pub entryFits : Head → Entry → Bool
-entryFits h e = placed h (e .directory) (e .partition) (e .object) (e .name) && numbered h (e .number)
+entryFits h e = entryAmong (h .count) e && given (h .last) (e .number)
 
 -- "BP numbers are not 0"
 unfoldable pub backpointerFits : Head → Backpointer → Bool
-backpointerFits h b = placed h (b .directory) (b .parent) (b .object) (b .name) && leb 1 (b .number)
+backpointerFits h b = backpointerAmong (h .count) b && leb 1 (b .number)
 
 unfoldable pub recordFits : Head → Record → Bool
-recordFits h r = placed h (r .directory) (r .partition) (r .object) (r .name) && numbered h (r .number)
+recordFits h r = recordAmong (h .count) r && given (h .last) (r .number)
 
 -- ---- the table of kinds: a kind more is a row more
 

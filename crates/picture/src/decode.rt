@@ -7,7 +7,7 @@ ghost use Rattle.codec.specs.Codec.{got, bad};
 ghost use Rattle.protocol.specs.declared.Refusal.the-variants.{FieldOutOfRange};
 ghost use Rattle.tables.specs.Slots.{zeroEntry, zeroBackpointer, zeroRecord};
 ghost use Rattle.picture.specs.Rows.{one, body};
-ghost use Rattle.picture.specs.Picture.{first, HD, EN, BP, LG, isKind, kindOf, headFits, placed, numbered, entryFits, backpointerFits, recordFits};
+ghost use Rattle.picture.specs.Picture.{first, HD, EN, BP, LG, isKind, kindOf, headFits, entryFits, backpointerFits, recordFits};
 ghost use Rattle.picture.specs.Answers.{zeroHead, Answered};
 use crate::BACKPOINTER_SIZE;
 use crate::BackpointerRead;
@@ -21,7 +21,7 @@ use crate::HeadRead;
 use crate::RECORD_SIZE;
 use crate::RecordRead;
 use crate::bytes;
-use names::Name;
+use order::partition;
 use protocol::Backpointer;
 use protocol::Entry;
 use protocol::Kind;
@@ -29,32 +29,6 @@ use protocol::Record;
 use protocol::Refusal;
 use protocol::Stage;
 use tables::elements;
-
-// ---- tests of fields
-
-fn is_placed(h: Head, directory: u8, partition: u8, object: u8, name: Name) -> bool
-    ensures { λ r. ⌜ r ≡ placed h directory partition object name ⌝ }
-{
-    if tables::DIRECTORIES <= directory {
-        return false;
-    }
-    if h.count <= partition {
-        return false;
-    }
-    if tables::OBJECTS <= object {
-        return false;
-    }
-    names::good(name)
-}
-
-fn is_numbered(h: Head, number: u32) -> bool
-    ensures { λ r. ⌜ r ≡ numbered h number ⌝ }
-{
-    if number < 1 {
-        return false;
-    }
-    number <= h.last
-}
 
 // ---- the header
 
@@ -133,11 +107,10 @@ pub fn read_head(s: &[u8]) -> HeadRead
 fn entry_fits(h: Head, e: Entry) -> bool
     ensures { λ r. ⌜ r ≡ entryFits h e ⌝ }
 {
-    let name = e.name;
-    if is_placed(h, e.directory, e.partition, e.object, name) {} else {
+    if partition::entry_in_range(e, h.count as usize) {} else {
         return false;
     }
-    is_numbered(h, e.number)
+    partition::is_given(h.last, e.number)
 }
 
 fn entry_at(s: &[u8]) -> Entry
@@ -184,8 +157,7 @@ pub fn decode_entry(s: &[u8], h: Head) -> EntryRead
 fn backpointer_fits(h: Head, b: Backpointer) -> bool
     ensures { λ r. ⌜ r ≡ backpointerFits h b ⌝ }
 {
-    let name = b.name;
-    if is_placed(h, b.directory, b.parent, b.object, name) {} else {
+    if partition::backpointer_in_range(b, h.count as usize) {} else {
         return false;
     }
     1 <= b.number
@@ -259,11 +231,10 @@ fn kind_of(k: u8) -> Kind
 fn record_fits(h: Head, r: Record) -> bool
     ensures { λ b. ⌜ b ≡ recordFits h r ⌝ }
 {
-    let name = r.name;
-    if is_placed(h, r.directory, r.partition, r.object, name) {} else {
+    if partition::record_in_range(r, h.count as usize) {} else {
         return false;
     }
-    is_numbered(h, r.number)
+    partition::is_given(h.last, r.number)
 }
 
 // The third byte is a kind.

@@ -4,24 +4,30 @@ use Rattle.picture.proofs.decode.record_fits.Statement.{statement}
 use Rattle.picture.proofs.decode.record_fits.Tie as tie
 use Rattle.picture.proofs.decode.record_fits.Reads as reads
 use Rattle.picture.proofs.decode.record_fits.Lts as lts
-use Rattle.picture.proofs.decode.is_numbered.Reads as is-numbered-reads
-use Rattle.picture.proofs.decode.is_placed.Reads as is-placed-reads
+use Rattle.order.proofs.partition.is_given.Reads as is-given-reads
+use Rattle.order.proofs.partition.record_in_range.Reads as record-in-range-reads
 
--- src/decode.rt:263:8
-is-placed-requires : tie.Need-is-placed-requires
-is-placed-requires c κs = search needs
+-- src/decode.rt:234:38
+cast-record-in-range : tie.Need-cast-record-in-range
+cast-record-in-range c = search needs
 
--- src/decode.rt:264:9
+-- src/decode.rt:234:8
+record-in-range-requires : tie.Need-record-in-range-requires
+record-in-range-requires c κs = search needs
+
+-- src/decode.rt:235:9
 returns : tie.Need-returns
 returns c = search (fieldTests, needs)
 
--- src/decode.rt:266:5
-is-numbered-requires : tie.Need-is-numbered-requires
-is-numbered-requires c κs = search needs
+-- src/decode.rt:237:5
+is-given-requires : tie.Need-is-given-requires
+is-given-requires c κs = search needs
 
--- src/decode.rt:259:1
+-- src/decode.rt:231:1
 returns-2 : tie.Need-returns-2
 returns-2 c = search (fieldTests, needs)
 
 pub record-fits-spec : {M : Type 1} → statement M
-record-fits-spec = tie.close (tie.spec is-placed-requires returns is-numbered-requires returns-2)
+record-fits-spec =
+    tie.close
+    (tie.spec cast-record-in-range record-in-range-requires returns is-given-requires returns-2)
