@@ -1,29 +1,23 @@
 -- The fields of a record at a place, and the tests of them: a law for each way through the code.
-use mathlib.Core.Bool.{Bool, and-false, and-true, false, true}
+use mathlib.Core.Bool.{Bool, false, true}
 use mathlib.Core.List.{List}
 use mathlib.Core.Path.{_∙_, _≡_, sym}
-use Prim.Native.Nat.{_+_, _<_, _≤_, ℕ}
+use Prim.Native.Nat.{_+_, _≤_, ℕ}
 use native.Mathlib.Omega.{arith}
-use lib.Dec.{eqb, leb, ltb}
+use lib.Dec.{eqb}
 use lib.ListN.{drop, getD, length, length-drop, take}
 use lib.Seq.{drop-drop}
-use borrow.Author.Tests.{eq-eqb, le-leb, lt-leb, ne-eqb}
-use Rattle.lists.specs.Lists.{every, pad}
+use borrow.Author.Tests.{eq-eqb, ne-eqb}
+use Rattle.lists.specs.Lists.{pad}
 use Rattle.names.specs.Names.{nameBytes}
 use Rattle.names.specs.Text.{bytes}
 use Rattle.names.specs.declared.Name.{Name}
-use Rattle.protocol.specs.Bounds.{maxPartitions}
-use Rattle.protocol.specs.declared.Backpointer.{Backpointer}
-use Rattle.protocol.specs.declared.Entry.{Entry}
 use Rattle.protocol.specs.declared.Kind.{Kind}
 use Rattle.protocol.specs.declared.Kind.the-variants.{Create, Link, Unlink}
-use Rattle.protocol.specs.declared.Record.{Record}
 use Rattle.protocol.specs.declared.Stage.the-variants.{Ready}
-use Rattle.order.specs.Clauses.{backpointerAmong, entryAmong, given, recordAmong}
 use Rattle.codec.specs.Codec.{after, always, bad, both, byte, get4, got, long, run, then, those, via}
-use Rattle.picture.specs.Picture.{BP, ED, EN, HD, LG, backpointerFits, entryFits, first, headFits, isKind, itemForm, kindOf, letterB, letterD, letterE, letterG, letterH, letterL, letterN, letterP, nameForm, recordFits}
+use Rattle.picture.specs.Picture.{BP, ED, EN, HD, LG, first, isKind, itemForm, kindOf, letterB, letterD, letterE, letterG, letterH, letterL, letterN, letterP, nameForm}
 use Rattle.picture.specs.Rows.{begins, marked}
-use Rattle.picture.specs.declared.Head.{Head}
 use Rattle.protocol.proofs.Look.{at}
 use Rattle.codec.proofs.Gets.{get1-at}
 use Rattle.codec.proofs.Sizes.{Short, Sized, run-at, short-those, short-via, sized-both, sized-byte, sized-long, sized-run, sized-then, sized-via, sized-word}
@@ -149,46 +143,3 @@ module _ (k : ℕ) where
 
     pub unlink-is : (k ≡ 2 → ⊥) → (eqb k 3 ≡ isKind k) × (Unlink ≡ kindOf k)
     unlink-is e = let a = ne-eqb k 1 n in let b = ne-eqb k 2 e in (rw (a, b), rw (a, b))
-
--- ---- the tests
-
-module _ (h : Head) where
-  pub head-none : h .count < 1 → false ≡ headFits h
-  unfolding headFits every
-  head-none e = simp (lt-leb _ _ e)
-
-  pub head-past : maxPartitions < h .count → false ≡ headFits h
-  unfolding headFits every
-  head-past e = simp (lt-leb _ _ e, and-false)
-
-  pub head-some : 1 ≤ h .count → h .count ≤ maxPartitions → ltb (h .partition) (h .count) ≡ headFits h
-  unfolding headFits every
-  head-some e f = simp (le-leb _ _ e, le-leb _ _ f, and-true)
-
--- one test, and then another
-module _ (h : Head) (b : Bool) where
-  pub entry-not : (e : Entry) → b ≡ entryAmong (h .count) e → b ≡ false → false ≡ entryFits h e
-  unfolding entryFits
-  entry-not e p q = simp (← p, q)
-
-  pub entry-then : (e : Entry) (c : Bool) → b ≡ entryAmong (h .count) e → b ≡ true → c ≡ given (h .last) (e .number) → c ≡ entryFits h e
-  unfolding entryFits
-  entry-then e c p q r = r ∙ simp (← p, q)
-
-  pub backpointer-not : (e : Backpointer) → b ≡ backpointerAmong (h .count) e → b ≡ false → false ≡ backpointerFits h e
-  unfolding backpointerFits
-  backpointer-not e p q = simp (← p, q)
-
-  pub backpointer-then : (e : Backpointer) → b ≡ backpointerAmong (h .count) e → b ≡ true → leb 1 (e .number) ≡ backpointerFits h e
-  unfolding backpointerFits
-  backpointer-then e p q = simp (← p, q)
-
-  pub record-not : (e : Record) → b ≡ recordAmong (h .count) e → b ≡ false → false ≡ recordFits h e
-  unfolding recordFits
-  record-not e p q = simp (← p, q)
-
-  pub record-then : (e : Record) (c : Bool) → b ≡ recordAmong (h .count) e → b ≡ true → c ≡ given (h .last) (e .number) → c ≡ recordFits h e
-  unfolding recordFits
-  record-then e c p q r = r ∙ simp (← p, q)
-
-pub ruleset fieldTests = (head-none, head-past, head-some, entry-not, entry-then, backpointer-not, backpointer-then, record-not, record-then)

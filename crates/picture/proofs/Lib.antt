@@ -12,3 +12,4 @@ pub mod Fields
 pub mod Gathers
 pub mod Closes
 pub mod Pictures
+pub mod Alone

@@ -11,6 +11,7 @@ use tables::Records;
 
 mod bytes; // numbers, names and marks at a place of a slice
 pub mod decode; // one record of each kind, from its start
+pub mod lone; // the check of a lone picture
 mod numbers; // the numbers of refusals
 mod sections; // all records of one kind, from a place on
 mod whole; // a whole picture

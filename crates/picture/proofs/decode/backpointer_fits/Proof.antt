@@ -1,4 +1,5 @@
-use Rattle.picture.proofs.Fields.{fieldTests}
+use Rattle.lists.proofs.Chains.{ands}
+use Rattle.picture.specs.Picture.{backpointerFits}
 use borrow.Author.Needs.{needs}
 use Rattle.picture.proofs.decode.backpointer_fits.Statement.{statement}
 use Rattle.picture.proofs.decode.backpointer_fits.Tie as tie
@@ -16,11 +17,13 @@ backpointer-in-range-requires c κs = search needs
 
 -- src/decode.rt:161:9
 returns : tie.Need-returns
-returns c = search (fieldTests, needs)
+unfolding backpointerFits
+returns c = search (ands, needs)
 
 -- src/decode.rt:157:1
 returns-2 : tie.Need-returns-2
-returns-2 c = search (fieldTests, needs)
+unfolding backpointerFits
+returns-2 c = search (ands, needs)
 
 pub backpointer-fits-spec : {M : Type 1} → statement M
 backpointer-fits-spec =

@@ -1,4 +1,5 @@
-use Rattle.picture.proofs.Fields.{fieldTests}
+use Rattle.lists.proofs.Chains.{ands}
+use Rattle.picture.specs.Picture.{entryFits}
 use borrow.Author.Needs.{needs}
 use Rattle.picture.proofs.decode.entry_fits.Statement.{statement}
 use Rattle.picture.proofs.decode.entry_fits.Tie as tie
@@ -17,7 +18,8 @@ entry-in-range-requires c κs = search needs
 
 -- src/decode.rt:111:9
 returns : tie.Need-returns
-returns c = search (fieldTests, needs)
+unfolding entryFits
+returns c = search (ands, needs)
 
 -- src/decode.rt:113:5
 is-given-requires : tie.Need-is-given-requires
@@ -25,7 +27,8 @@ is-given-requires c κs = search needs
 
 -- src/decode.rt:107:1
 returns-2 : tie.Need-returns-2
-returns-2 c = search (fieldTests, needs)
+unfolding entryFits
+returns-2 c = search (ands, needs)
 
 pub entry-fits-spec : {M : Type 1} → statement M
 entry-fits-spec =
