@@ -13,3 +13,5 @@ pub mod Gathers
 pub mod Closes
 pub mod Pictures
 pub mod Alone
+pub mod Puttings
+pub mod Encodes

@@ -2,9 +2,10 @@
 use mathlib.Core.Path.{_≡_}
 use mathlib.Core.Bool.{Bool, true, false}
 use mathlib.Core.List.{List, []}
-use Prim.Native.Nat.{ℕ, _≤_}
+use Prim.Native.Nat.{ℕ, _+_, _*_, _≤_}
 use lib.ListN.{length, take, drop}
 use Rattle.lists.specs.Lists.{pick, pad}
+use Rattle.codec.specs.Over.{over}
 use Rattle.protocol.specs.declared.Refusal.{Refusal}
 use Rattle.protocol.specs.declared.Refusal.the-variants.{Accepted}
 use Rattle.protocol.specs.Elements.{isAccepted}
@@ -15,7 +16,7 @@ use Rattle.tables.specs.View.{entriesOf, backpointersOf, recordsOf, viewPartiti
 use Rattle.picture.specs.declared.Head.{Head}
 use Rattle.picture.specs.declared.Item.{Item}
 use Rattle.picture.specs.declared.PictureRead.{PictureRead}
-use Rattle.picture.specs.Rows.{Row, Read, fail, more, many, readTable}
+use Rattle.picture.specs.Rows.{Row, putRow, putRows, Read, fail, more, many, readTable}
 use Rattle.picture.specs.Picture.{Picture, ItemFields, Items, first, sections, headOf, pictureFrom, headSize, read}
 
 abbrev pub itemOf : Item → ItemFields
@@ -95,3 +96,18 @@ pub record Pictured (bs : List ℕ) (r : PictureRead) : Type 0 where
   pub answer : r ≡ pictureRead (read first bs)
   pub telling : toldPicture r ≡ read first bs
   pub counted : Counted (r .tables)
+
+-- ---- what is put into lent bytes
+
+module _ {A : Type 0} (w : Row A) (size : ℕ) (l : List ℕ) (at : ℕ) where
+  -- a record of so many bytes, laid over l from `at` on; `next` is behind it
+  pub record Put (x : A) (next : ℕ) (b : List ℕ) : Type 0 where
+    pub place : next ≡ at + size
+    pub long : length (putRow w x) ≡ size
+    pub bytes : b ≡ over l at (putRow w x)
+
+  -- the first n of some records, one behind another
+  pub record PutAll (xs : List A) (n next : ℕ) (b : List ℕ) : Type 0 where
+    pub place : next ≡ at + size * n
+    pub long : length (putRows w (take n xs)) ≡ size * n
+    pub bytes : b ≡ over l at (putRows w (take n xs))

@@ -11,8 +11,10 @@ use tables::Records;
 
 mod bytes; // numbers, names and marks at a place of a slice
 pub mod decode; // one record of each kind, from its start
+mod encode; // one record of each kind, and all of a kind, put at a place
 pub mod lone; // the check of a lone picture
 mod numbers; // the numbers of refusals
+mod put; // numbers and bytes put at a place of lent bytes
 mod sections; // all records of one kind, from a place on
 mod whole; // a whole picture
 
