@@ -15,3 +15,4 @@ pub mod Pictures
 pub mod Alone
 pub mod Puttings
 pub mod Encodes
+pub mod Standings

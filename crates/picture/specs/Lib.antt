@@ -3,3 +3,4 @@ pub mod Picture
 pub mod Answers
 pub mod Lone
 pub mod Store
+pub mod Standing

@@ -16,6 +16,7 @@ pub mod lone; // the check of a lone picture
 mod numbers; // the numbers of refusals
 mod put; // numbers and bytes put at a place of lent bytes
 mod sections; // all records of one kind, from a place on
+pub mod standing; // what stands at a place of a picture
 mod whole; // a whole picture
 
 pub use numbers::refusal_number;
@@ -118,4 +119,25 @@ pub struct PictureRead {
     pub refusal: Refusal,
     pub head: Head,
     pub tables: Partition,
+}
+
+// What stands at a place of a picture.
+pub enum Part {
+    AtHead,
+    AtEntry,
+    AtBackpointer,
+    AtRecord,
+    AtClose,
+    AtRefusal,
+}
+
+// What a reader hands out at a place, and the place where it stands next. What is not handed out is zero.
+pub struct Handed {
+    pub part: Part,
+    pub refusal: Refusal,
+    pub head: Head,
+    pub entry: Entry,
+    pub backpointer: Backpointer,
+    pub log: Record,
+    pub next: usize,
 }

@@ -65,7 +65,7 @@ fn no_tables(refusal: Refusal) -> TablesRead
 }
 
 // The sections behind the header.
-fn read_sections(s: &[u8], h: Head) -> TablesRead
+pub fn read_sections(s: &[u8], h: Head) -> TablesRead
     requires { ⌜ headSize ≤ length (now s) ⌝ }
     ensures { λ r. ⌜ Tabled (now (s .entry)) h (r .refusal) (r .at) (r .tables) ⌝ }
 {
@@ -102,7 +102,7 @@ fn read_sections(s: &[u8], h: Head) -> TablesRead
 }
 
 // The close at a place, of a picture of n records.
-fn close_at(s: &[u8], at: usize, n: u32) -> Refusal
+pub fn close_at(s: &[u8], at: usize, n: u32) -> Refusal
     requires { ⌜ at ≤ length (now s) ⌝ }
     ensures { λ r. ⌜ toldClose n r ≡ closing n (drop at (now (s .entry))) ⌝ }
 {
@@ -126,7 +126,7 @@ fn close_at(s: &[u8], at: usize, n: u32) -> Refusal
 }
 
 // How many records there are together.
-fn total(entries: usize, backpointers: usize, records: usize) -> u32
+pub fn total(entries: usize, backpointers: usize, records: usize) -> u32
     requires { ⌜ (entries ≤ maxEntries) × (backpointers ≤ maxBackpointers) × (records ≤ maxRecords) ⌝ }
     ensures { λ r. ⌜ r ≡ entries + backpointers + records ⌝ }
 {
