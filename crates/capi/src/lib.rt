@@ -7,6 +7,6 @@ ghost use Rattle.picture.specs.Lone.{lone};
 pub extern "C" fn picture_check(bytes: &[u8]) -> u32
     ensures { λ r. ⌜ r ≡ refusalNumber (lone (now (bytes .entry))) ⌝ }
 {
-    let refusal = picture::lone::check(bytes);
-    picture::refusal_number(refusal)
+    let refusal = reading::lone::check(bytes);
+    reading::refusal_number(refusal)
 }

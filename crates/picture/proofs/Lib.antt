@@ -3,16 +3,5 @@ pub mod Tabular
 pub mod Forms
 pub mod RoundTrip
 pub mod InOrder
-pub mod Loads
 pub mod Lengths
-pub mod Ways
-pub mod Sectioned
-pub mod Decodes
-pub mod Fields
-pub mod Gathers
-pub mod Closes
-pub mod Pictures
-pub mod Alone
-pub mod Puttings
-pub mod Encodes
-pub mod Standings
+pub mod Loads

@@ -1,4 +1,5 @@
-// The picture of one partition's stable tables (document 01, 'The picture'): read, written and checked record by record.
+// The picture of one partition's stable tables (document 01, 'The picture'): its marks and sizes, and what is made of them. The
+// definitions and what is proved of them stand in specs/ and proofs/; crates reading and writing have the functions.
 use names::Name;
 use protocol::Backpointer;
 use protocol::Entry;
@@ -8,19 +9,6 @@ use tables::Backpointers;
 use tables::Entries;
 use tables::Partition;
 use tables::Records;
-
-mod bytes; // numbers, names and marks at a place of a slice
-pub mod decode; // one record of each kind, from its start
-mod encode; // one record of each kind, and all of a kind, put at a place
-pub mod lone; // the check of a lone picture
-mod numbers; // the numbers of refusals
-mod put; // numbers and bytes put at a place of lent bytes
-mod sections; // all records of one kind, from a place on
-pub mod standing; // what stands at a place of a picture
-mod whole; // a whole picture
-
-pub use numbers::refusal_number;
-pub use whole::read_picture;
 
 // The letters of the marks.
 pub const B: u8 = 66;

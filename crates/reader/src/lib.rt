@@ -12,7 +12,7 @@ pub struct Reader<'a> {
 fn record_at(s: &[u8], at: usize) -> Handed
     ensures { λ r. ⌜ r ≡ handedAt (now (s .entry)) at ⌝ }
 {
-    picture::standing::record_at(s, at)
+    reading::standing::record_at(s, at)
 }
 
 fn next_at(s: &[u8], at: usize) -> usize

@@ -1,0 +1,179 @@
+-- What stands at a place: a law for each way through the code.
+use mathlib.Core.Bool.{Bool, _&&_, false, true}
+use mathlib.Core.List.{List}
+use mathlib.Core.Path.{_∙_, _≡_, ap, sym}
+use Prim.Native.Nat.{_+_, _-_, _<_, _≤_, ℕ}
+use native.Mathlib.Omega.{arith}
+use lib.Dec.{eqb, leb}
+use lib.ListN.{drop, length, length-drop, take}
+use lib.Seq.{length-take-le}
+use borrow.Author.Tests.{le-leb, le-ltb, lt-leb, lt-ltb}
+use Rattle.protocol.specs.Bounds.{maxBackpointers, maxEntries, maxRecords}
+use Rattle.protocol.specs.Elements.{isAccepted}
+use Rattle.protocol.specs.declared.Backpointer.{Backpointer}
+use Rattle.protocol.specs.declared.Entry.{Entry}
+use Rattle.protocol.specs.declared.Record.{Record}
+use Rattle.protocol.specs.declared.Refusal.{Refusal}
+use Rattle.protocol.specs.declared.Refusal.the-variants.{Accepted, EndsEarly, FieldOutOfRange, MarkNotAllowed}
+use Rattle.tables.specs.Slots.{zeroBackpointer, zeroEntry, zeroRecord}
+use Rattle.tables.specs.View.{backpointersOf, entriesOf, packPartition, recordsOf}
+use Rattle.picture.specs.Answers.{Answered, Tabled, itemsIn, told, toldClose, zeroHead}
+use Rattle.picture.specs.Picture.{BP, EN, HD, LG, backpointerFits, closing, entryFits, first, headFits, headSize, pictureFrom, recordFits, sections}
+use Rattle.picture.specs.Rows.{body, fail, marked, more, one, readTable}
+use Rattle.picture.specs.Standing.{handedAt, handedBehind, handedNext, handedUnder, handsBackpointer, handsClose, handsEntry, handsHead, handsRecord, stays}
+use Rattle.picture.specs.declared.Handed.{Handed}
+use Rattle.picture.specs.declared.Head.{Head}
+use Rattle.picture.specs.declared.Part.the-variants.{AtBackpointer, AtClose, AtEntry, AtRecord, AtRefusal}
+use Rattle.protocol.proofs.Look.{at}
+use Rattle.reading.proofs.Decodes.{told-fail, told-more}
+use Rattle.tables.specs.declared.Partition.{Partition as Stored}
+
+module _ (h : Head) (s : List ℕ) (at : ℕ) (full : Bool) (k : Refusal) (x : Entry) (g : Answered zeroEntry 18 s (body (EN first) FieldOutOfRange (entryFits h) s) k x) (b : Bool) (e : b ≡ isAccepted k) where
+  pub entry-fail : b ≡ false → (r : Handed) → r ≡ stays AtRefusal k at → r ≡ handsEntry at full (body (EN first) FieldOutOfRange (entryFits h) s)
+  unfolding handsEntry
+  entry-fail f r i = i ∙ sym (ap (handsEntry at full) (told-fail zeroEntry 18 s _ k x g (sym e ∙ f)))
+
+  module _ (f : b ≡ true) where
+    entry-seen : body (EN first) FieldOutOfRange (entryFits h) s ≡ more x (drop 18 s)
+    entry-seen = told-more zeroEntry 18 s _ k x g (sym e ∙ f)
+
+    pub entry-full : full ≡ true → (r : Handed) → r ≡ stays AtRefusal FieldOutOfRange at → r ≡ handsEntry at full (body (EN first) FieldOutOfRange (entryFits h) s)
+    unfolding handsEntry
+    entry-full y r i = i ∙ sym (ap (handsEntry at full) entry-seen ∙ rw y)
+
+    pub entry-good : full ≡ false → (v : Backpointer) (w : Record) → v ≡ zeroBackpointer → w ≡ zeroRecord
+        → record { part = AtEntry; refusal = Accepted; head = record { partition = 0; count = 0; last = 0 }; entry = x; backpointer = v; log = w; next = at + 18 } ≡ handsEntry at full (body (EN first) FieldOutOfRange (entryFits h) s)
+    unfolding handsEntry zeroHead
+    entry-good y v w p q = sym (ap (handsEntry at full) entry-seen ∙ rw (y, p, q))
+
+module _ (h : Head) (s : List ℕ) (at : ℕ) (full : Bool) (k : Refusal) (x : Backpointer) (g : Answered zeroBackpointer 18 s (body (BP first) FieldOutOfRange (backpointerFits h) s) k x) (b : Bool) (e : b ≡ isAccepted k) where
+  pub backpointer-fail : b ≡ false → (r : Handed) → r ≡ stays AtRefusal k at → r ≡ handsBackpointer at full (body (BP first) FieldOutOfRange (backpointerFits h) s)
+  unfolding handsBackpointer
+  backpointer-fail f r i = i ∙ sym (ap (handsBackpointer at full) (told-fail zeroBackpointer 18 s _ k x g (sym e ∙ f)))
+
+  module _ (f : b ≡ true) where
+    backpointer-seen : body (BP first) FieldOutOfRange (backpointerFits h) s ≡ more x (drop 18 s)
+    backpointer-seen = told-more zeroBackpointer 18 s _ k x g (sym e ∙ f)
+
+    pub backpointer-full : full ≡ true → (r : Handed) → r ≡ stays AtRefusal FieldOutOfRange at → r ≡ handsBackpointer at full (body (BP first) FieldOutOfRange (backpointerFits h) s)
+    unfolding handsBackpointer
+    backpointer-full y r i = i ∙ sym (ap (handsBackpointer at full) backpointer-seen ∙ rw y)
+
+    pub backpointer-good : full ≡ false → (v : Entry) (w : Record) → v ≡ zeroEntry → w ≡ zeroRecord
+        → record { part = AtBackpointer; refusal = Accepted; head = record { partition = 0; count = 0; last = 0 }; entry = v; backpointer = x; log = w; next = at + 18 } ≡ handsBackpointer at full (body (BP first) FieldOutOfRange (backpointerFits h) s)
+    unfolding handsBackpointer zeroHead
+    backpointer-good y v w p q = sym (ap (handsBackpointer at full) backpointer-seen ∙ rw (y, p, q))
+
+module _ (h : Head) (s : List ℕ) (at : ℕ) (full : Bool) (k : Refusal) (x : Record) (g : Answered zeroRecord 19 s (body (LG first) FieldOutOfRange (recordFits h) s) k x) (b : Bool) (e : b ≡ isAccepted k) where
+  pub record-fail : b ≡ false → (r : Handed) → r ≡ stays AtRefusal k at → r ≡ handsRecord at full (body (LG first) FieldOutOfRange (recordFits h) s)
+  unfolding handsRecord
+  record-fail f r i = i ∙ sym (ap (handsRecord at full) (told-fail zeroRecord 19 s _ k x g (sym e ∙ f)))
+
+  module _ (f : b ≡ true) where
+    record-seen : body (LG first) FieldOutOfRange (recordFits h) s ≡ more x (drop 19 s)
+    record-seen = told-more zeroRecord 19 s _ k x g (sym e ∙ f)
+
+    pub record-full : full ≡ true → (r : Handed) → r ≡ stays AtRefusal FieldOutOfRange at → r ≡ handsRecord at full (body (LG first) FieldOutOfRange (recordFits h) s)
+    unfolding handsRecord
+    record-full y r i = i ∙ sym (ap (handsRecord at full) record-seen ∙ rw y)
+
+    pub record-good : full ≡ false → (v : Entry) (w : Backpointer) → v ≡ zeroEntry → w ≡ zeroBackpointer
+        → record { part = AtRecord; refusal = Accepted; head = record { partition = 0; count = 0; last = 0 }; entry = v; backpointer = w; log = x; next = at + 19 } ≡ handsRecord at full (body (LG first) FieldOutOfRange (recordFits h) s)
+    unfolding handsRecord zeroHead
+    record-good y v w p q = sym (ap (handsRecord at full) record-seen ∙ rw (y, p, q))
+
+pub ruleset handing = (entry-fail, entry-full, entry-good, backpointer-fail, backpointer-full, backpointer-good, record-fail, record-full, record-good)
+
+-- ---- the close
+
+module _ (s : List ℕ) (at n : ℕ) (k : Refusal) (c : toldClose n k ≡ closing n (drop at s)) (b : Bool) (e : b ≡ isAccepted k) (r : Handed) where
+  pub close-hands : b ≡ true → r ≡ stays AtClose Accepted at → r ≡ handsClose at (closing n (drop at s))
+  unfolding handsClose toldClose
+  close-hands f i = i ∙ sym (ap (handsClose at) (sym c) ∙ rw (sym e ∙ f))
+
+  pub close-stays : b ≡ false → r ≡ stays AtRefusal k at → r ≡ handsClose at (closing n (drop at s))
+  unfolding handsClose toldClose
+  close-stays f i = i ∙ sym (ap (handsClose at) (sym c) ∙ rw (sym e ∙ f))
+
+-- ---- behind what stands before
+
+module _ (at : ℕ) (h : Head) (a b c : ℕ) (bs : List ℕ) (r : Handed) (t : Bool) (m : t ≡ marked (EN first) bs) where
+  pub next-entry : (p : List ℕ) → (t && (eqb b 0 && eqb c 0)) ≡ true → p ≡ bs → r ≡ handsEntry at (leb maxEntries a) (body (EN first) FieldOutOfRange (entryFits h) p) → r ≡ handedNext at h a b c bs
+  unfolding handedNext
+  next-entry p y e i = i ∙ rw (e, ← m, y)
+
+  module _ (y : (t && (eqb b 0 && eqb c 0)) ≡ false) (u : Bool) (n : u ≡ marked (BP first) bs) where
+    pub next-backpointer : (p : List ℕ) → (u && eqb c 0) ≡ true → p ≡ bs → r ≡ handsBackpointer at (leb maxBackpointers b) (body (BP first) FieldOutOfRange (backpointerFits h) p) → r ≡ handedNext at h a b c bs
+    unfolding handedNext
+    next-backpointer p z e i = i ∙ rw (e, ← m, y, ← n, z)
+
+    module _ (z : (u && eqb c 0) ≡ false) (v : Bool) (o : v ≡ marked (LG first) bs) where
+      pub next-record : (p : List ℕ) → v ≡ true → p ≡ bs → r ≡ handsRecord at (leb maxRecords c) (body (LG first) FieldOutOfRange (recordFits h) p) → r ≡ handedNext at h a b c bs
+      unfolding handedNext
+      next-record p f e i = i ∙ rw (e, ← m, y, ← n, z, ← o, f)
+
+      pub next-close : (k : ℕ) → v ≡ false → k ≡ a + b + c → r ≡ handsClose at (closing k bs) → r ≡ handedNext at h a b c bs
+      unfolding handedNext
+      next-close k f e i = i ∙ rw (e, ← m, y, ← n, z, ← o, f)
+
+pub ruleset nexts = (next-entry, next-backpointer, next-record, next-close)
+
+-- ---- at a place
+
+pub prefix-count : (s : List ℕ) (at : ℕ) → at ≤ length s → at ≡ length (take at s)
+prefix-count s at h = sym (length-take-le at s h)
+
+pub prefix-long : (s : List ℕ) (at : ℕ) → headSize ≤ at → at ≤ length s → headSize ≤ length (take at s)
+prefix-long s at l h = omega (arith, prefix-count s at h)
+
+module _ (s : List ℕ) (at : ℕ) (r : Handed) (k₁ : Refusal) (h : Head) (g : Answered zeroHead headSize s (one (HD first) FieldOutOfRange headFits s) k₁ h) (b₁ : Bool) (e₁ : b₁ ≡ isAccepted k₁) where
+  pub stand-fail : b₁ ≡ false → r ≡ stays AtRefusal k₁ at → r ≡ handedAt s at
+  unfolding handedAt handedUnder
+  stand-fail f i = i ∙ sym (ap (handedUnder s at) (told-fail zeroHead headSize s _ k₁ h g (sym e₁ ∙ f)))
+
+  module _ (f₁ : b₁ ≡ true) where
+    under : handedAt s at ≡ handedUnder s at (more h (drop headSize s))
+    unfolding handedAt
+    under = ap (handedUnder s at) (told-more zeroHead headSize s _ k₁ h g (sym e₁ ∙ f₁))
+
+    pub stand-head : at < headSize → r ≡ handsHead h → r ≡ handedAt s at
+    unfolding handedUnder
+    stand-head l i = i ∙ sym (under ∙ rw (lt-ltb _ _ l))
+
+    module _ (l : headSize ≤ at) where
+      pub stand-past : length s < at → r ≡ stays AtRefusal EndsEarly at → r ≡ handedAt s at
+      unfolding handedUnder
+      stand-past m i = i ∙ sym (under ∙ rw (le-ltb _ _ l, lt-ltb _ _ m))
+
+      module _ (m : at ≤ length s) (p : List ℕ) (same : p ≡ take at s) (k₂ : Refusal) (end : ℕ) (x : Stored) (t : Tabled p h k₂ end x) (b₂ : Bool) (e₂ : b₂ ≡ isAccepted k₂) where
+        behind : handedAt s at ≡ handedBehind s at h (readTable (sections first) h (drop headSize p))
+        unfolding handedUnder
+        behind = under ∙ rw (le-ltb _ _ l, le-ltb _ _ m, same)
+
+        pub stand-bad : b₂ ≡ false → r ≡ stays AtRefusal k₂ at → r ≡ handedAt s at
+        unfolding handedBehind told
+        stand-bad f i = let q : readTable (sections first) h (drop headSize p) ≡ fail k₂ = sym (t .reading) ∙ rw (sym e₂ ∙ f) in i ∙ sym (behind ∙ rw q)
+
+        module _ (f₂ : b₂ ≡ true) where
+          met : readTable (sections first) h (drop headSize p) ≡ more (itemsIn x) (drop end p)
+          unfolding told
+          met = sym (t .reading) ∙ rw (sym e₂ ∙ f₂)
+
+          left : length (drop end p) ≡ at - end
+          left = length-drop end p ∙ ap (λ (n : ℕ). n - end) (ap length same ∙ length-take-le at s m)
+
+          pub stand-off : end < at → r ≡ stays AtRefusal MarkNotAllowed at → r ≡ handedAt s at
+          unfolding handedBehind
+          stand-off o i = let w : 1 ≤ length (drop end p) = omega (arith, left) in i ∙ sym (behind ∙ rw met (rw (le-leb _ _ w)))
+
+          pub stand-next : at ≤ end → r ≡ handedNext at h (x .entries .count) (x .backpointers .count) (x .records .count) (drop at s) → r ≡ handedAt s at
+          unfolding handedBehind
+          stand-next o i =
+              let w : length (drop end p) < 1 = omega (arith, left) in
+              let y : x ≡ packPartition (pictureFrom first h (itemsIn x) .tables) = t .stored ∙ rw (sym e₂ ∙ f₂) in
+              let a : x .entries .count ≡ length (entriesOf (x .entries)) = ap (λ (z : Stored). z .entries .count) y in
+              let b : x .backpointers .count ≡ length (backpointersOf (x .backpointers)) = ap (λ (z : Stored). z .backpointers .count) y in
+              let c : x .records .count ≡ length (recordsOf (x .records)) = ap (λ (z : Stored). z .records .count) y in
+              i ∙ sym (behind ∙ rw met (rw (lt-leb _ _ w, ← a, ← b, ← c)))
+
+pub ruleset stands = (stand-fail, stand-head, stand-past, stand-bad, stand-off, stand-next)
