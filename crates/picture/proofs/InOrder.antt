@@ -23,6 +23,7 @@ use Rattle.protocol.specs.declared.Record.{Record}
 use Rattle.protocol.specs.declared.Stage.the-variants.{Ready}
 use Rattle.order.specs.Clauses.{backpointerAmong, entryAmong, given, placedAmong, recordAmong}
 use Rattle.codec.specs.Codec.{byte, isByte, long, run, then, those, via}
+use Rattle.picture.specs.Claims.{Holds}
 use Rattle.picture.specs.Picture.{BP, EN, Edition, HD, LG, backpointerFits, entryFits, first, headFits, headOf, isKind, itemForm, nameForm, pictureOf, read, recordFits, write}
 use Rattle.picture.specs.Rows.{Row, fits, fitting, more}
 use Rattle.picture.specs.declared.Head.{Head}
@@ -33,10 +34,6 @@ use Rattle.lists.proofs.Tests.{_also_, and-left, and-right, below-at, both-true
 use Rattle.names.proofs.Laws.{bytes-same}
 use Rattle.protocol.proofs.Look.{at}
 use Rattle.picture.proofs.RoundTrip.{showable, written-reads}
-
--- of a name of at most eight bytes no fewer are held, and no more than there are
-abbrev pub Holds : Edition → Type 0
-Holds v = (n : ℕ) → n ≤ nameBytes → (n ≤ v .held n) × (v .held n ≤ nameBytes)
 
 pub first-holds : Holds first
 first-holds n h = (h, omega arith)

@@ -97,7 +97,7 @@ module _ (m : Model) (p : ℕ) (o : inOrder m ≡ true) (i : isPartition m p ≡
   unfolding inOrder O1
   ranges = below-at _ _ (every-at _ (every-at _ o 0) 3) p (ltb-true _ _ i)
 
-  -- what the tables of a partition in order have, their picture has 12 bytes more
+  -- header and close, and so many bytes for each entry, back-pointer and record
   pub picture-length : length (write first (pictureOf m p)) ≡ sized (length (x .entries)) (length (x .backpointers)) (length (x .records))
   unfolding write pictureOf partitionInRange
   picture-length =

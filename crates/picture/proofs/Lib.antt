@@ -5,3 +5,4 @@ pub mod RoundTrip
 pub mod InOrder
 pub mod Lengths
 pub mod Loads
+pub mod Claimed

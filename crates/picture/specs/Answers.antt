@@ -9,10 +9,9 @@ use Rattle.codec.specs.Over.{over}
 use Rattle.protocol.specs.declared.Refusal.{Refusal}
 use Rattle.protocol.specs.declared.Refusal.the-variants.{Accepted}
 use Rattle.protocol.specs.Elements.{isAccepted}
-use Rattle.protocol.specs.Bounds.{maxEntries, maxBackpointers, maxRecords}
 use Rattle.protocol.specs.Tables.{noPartition}
 use Rattle.tables.specs.declared.Partition.{Partition as Stored}
-use Rattle.tables.specs.View.{entriesOf, backpointersOf, recordsOf, viewPartition, packPartition}
+use Rattle.tables.specs.View.{entriesOf, backpointersOf, recordsOf, viewPartition, packPartition, Ranged}
 use Rattle.picture.specs.declared.Head.{Head}
 use Rattle.picture.specs.declared.Item.{Item}
 use Rattle.picture.specs.declared.PictureRead.{PictureRead}
@@ -58,18 +57,12 @@ module _ {A : Type 0} where
 abbrev pub itemsIn : Stored → Items first
 itemsIn x = (entriesOf (x .entries), (backpointersOf (x .backpointers), (recordsOf (x .records), tt)))
 
--- each count is within its bound
-pub record Counted (x : Stored) : Type 0 where
-  pub entries : x .entries .count ≤ maxEntries
-  pub backpointers : x .backpointers .count ≤ maxBackpointers
-  pub records : x .records .count ≤ maxRecords
-
 -- the sections behind a header: they tell of the reading, and are stored as the tables that they show; a refusal leaves none
 pub record Tabled (bs : List ℕ) (h : Head) (why : Refusal) (at : ℕ) (x : Stored) : Type 0 where
   pub reading : told at bs why (itemsIn x) ≡ readTable (sections first) h (drop headSize bs)
   pub stored : x ≡ packPartition (pick (isAccepted why) (pictureFrom first h (itemsIn x) .tables) noPartition)
   pub place : at ≤ length bs
-  pub counted : Counted x
+  pub counted : Ranged x
 
 -- the close of a picture of n records
 unfoldable pub toldClose : ℕ → Refusal → Read ℕ
@@ -95,7 +88,7 @@ toldPicture r =
 pub record Pictured (bs : List ℕ) (r : PictureRead) : Type 0 where
   pub answer : r ≡ pictureRead (read first bs)
   pub telling : toldPicture r ≡ read first bs
-  pub counted : Counted (r .tables)
+  pub counted : Ranged (r .tables)
 
 -- ---- what is put into lent bytes
 

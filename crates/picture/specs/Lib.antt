@@ -4,3 +4,4 @@ pub mod Answers
 pub mod Lone
 pub mod Store
 pub mod Standing
+pub mod Claims

@@ -36,24 +36,22 @@ unfoldable pub handsHead : Head → Handed
 handsHead h =
     record { part = AtHead; refusal = Accepted; head = h; entry = zeroEntry; backpointer = zeroBackpointer; log = zeroRecord; next = headSize }
 
+abbrev pub handsEntry : ℕ → Entry → Handed
+handsEntry at e =
+    record { part = AtEntry; refusal = Accepted; head = zeroHead; entry = e; backpointer = zeroBackpointer; log = zeroRecord; next = at + 18 }
+
+abbrev pub handsBackpointer : ℕ → Backpointer → Handed
+handsBackpointer at b =
+    record { part = AtBackpointer; refusal = Accepted; head = zeroHead; entry = zeroEntry; backpointer = b; log = zeroRecord; next = at + 18 }
+
+abbrev pub handsRecord : ℕ → Record → Handed
+handsRecord at x =
+    record { part = AtRecord; refusal = Accepted; head = zeroHead; entry = zeroEntry; backpointer = zeroBackpointer; log = x; next = at + 19 }
+
 -- one too many of a kind is a refusal
-unfoldable pub handsEntry : ℕ → Bool → Read Entry → Handed
-handsEntry at full (fail why) = stays AtRefusal why at
-handsEntry at full (more e r) =
-    pick full (stays AtRefusal FieldOutOfRange at)
-    (record { part = AtEntry; refusal = Accepted; head = zeroHead; entry = e; backpointer = zeroBackpointer; log = zeroRecord; next = at + 18 })
-
-unfoldable pub handsBackpointer : ℕ → Bool → Read Backpointer → Handed
-handsBackpointer at full (fail why) = stays AtRefusal why at
-handsBackpointer at full (more b r) =
-    pick full (stays AtRefusal FieldOutOfRange at)
-    (record { part = AtBackpointer; refusal = Accepted; head = zeroHead; entry = zeroEntry; backpointer = b; log = zeroRecord; next = at + 18 })
-
-unfoldable pub handsRecord : ℕ → Bool → Read Record → Handed
-handsRecord at full (fail why) = stays AtRefusal why at
-handsRecord at full (more x r) =
-    pick full (stays AtRefusal FieldOutOfRange at)
-    (record { part = AtRecord; refusal = Accepted; head = zeroHead; entry = zeroEntry; backpointer = zeroBackpointer; log = x; next = at + 19 })
+unfoldable pub hands : {A : Type 0} → (A → Handed) → ℕ → Bool → Read A → Handed
+hands hand at full (fail why) = stays AtRefusal why at
+hands hand at full (more x r) = pick full (stays AtRefusal FieldOutOfRange at) (hand x)
 
 unfoldable pub handsClose : ℕ → Read ℕ → Handed
 handsClose at (fail why) = stays AtRefusal why at
@@ -63,9 +61,9 @@ handsClose at (more n r) = stays AtClose Accepted at
 
 unfoldable pub handedNext : ℕ → Head → ℕ → ℕ → ℕ → List ℕ → Handed
 handedNext at h a b c bs =
-    pick (marked (EN first) bs && (eqb b 0 && eqb c 0)) (handsEntry at (leb maxEntries a) (body (EN first) FieldOutOfRange (entryFits h) bs))
-    (pick (marked (BP first) bs && eqb c 0) (handsBackpointer at (leb maxBackpointers b) (body (BP first) FieldOutOfRange (backpointerFits h) bs))
-    (pick (marked (LG first) bs) (handsRecord at (leb maxRecords c) (body (LG first) FieldOutOfRange (recordFits h) bs))
+    pick (marked (EN first) bs && (eqb b 0 && eqb c 0)) (hands (handsEntry at) at (leb maxEntries a) (body (EN first) FieldOutOfRange (entryFits h) bs))
+    (pick (marked (BP first) bs && eqb c 0) (hands (handsBackpointer at) at (leb maxBackpointers b) (body (BP first) FieldOutOfRange (backpointerFits h) bs))
+    (pick (marked (LG first) bs) (hands (handsRecord at) at (leb maxRecords c) (body (LG first) FieldOutOfRange (recordFits h) bs))
     (handsClose at (closing (a + b + c) bs))))
 
 -- ---- at a place: what stands before it is read first, as the reader has met it

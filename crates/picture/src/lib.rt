@@ -1,5 +1,6 @@
 // The picture of one partition's stable tables (document 01, 'The picture'): its marks and sizes, and what is made of them. The
 // definitions and what is proved of them stand in specs/ and proofs/; crates reading and writing have the functions.
+ghost use Rattle.picture.specs.Claims.{ReadsBack, NoOtherBytes, Largest, LoadsBack, LoadsAfterCrash};
 use names::Name;
 use protocol::Backpointer;
 use protocol::Entry;
@@ -129,3 +130,8 @@ pub struct Handed {
     pub log: Record,
     pub next: usize,
 }
+
+// What is proved of the definitions: the contract states it, and the function does nothing.
+pub fn claims()
+    ensures { λ r. ⌜ ReadsBack × NoOtherBytes × Largest × LoadsBack × LoadsAfterCrash ⌝ }
+{}

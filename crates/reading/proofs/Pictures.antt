@@ -13,21 +13,21 @@ use Rattle.protocol.specs.Tables.{noPartition}
 use Rattle.protocol.specs.declared.Refusal.{Refusal}
 use Rattle.protocol.specs.declared.Refusal.the-variants.{Accepted, FieldOutOfRange}
 use Rattle.tables.specs.Slots.{zeroBackpointer, zeroEntry, zeroRecord}
-use Rattle.tables.specs.View.{backpointersOf, entriesOf, packPartition, recordsOf}
+use Rattle.tables.specs.View.{Ranged, backpointersOf, entriesOf, packPartition, recordsOf}
 use Rattle.tables.specs.declared.Backpointers.{Backpointers}
 use Rattle.tables.specs.declared.Entries.{Entries}
 use Rattle.tables.specs.declared.Records.{Records}
-use Rattle.picture.specs.Answers.{Answered, Counted, Gathered, Pictured, Tabled, itemsIn, noPicture, pictureRead, told, toldClose, toldPicture, zeroHead}
+use Rattle.picture.specs.Answers.{Answered, Gathered, Pictured, Tabled, itemsIn, noPicture, pictureRead, told, toldClose, toldPicture, zeroHead}
 use Rattle.picture.specs.Picture.{BP, EN, HD, Items, LG, Picture, backpointerFits, closing, entryFits, first, headFits, headSize, pictureFrom, read, readTables, recordFits, sections}
 use Rattle.picture.specs.Rows.{Read, Row, counted, fail, many, marked, more, next, one, readTable}
 use Rattle.picture.specs.declared.Head.{Head}
 use Rattle.picture.specs.declared.PictureRead.{PictureRead}
 use Rattle.lists.proofs.Fills.{length-pad}
 use Rattle.protocol.proofs.Look.{at}
-use Rattle.reading.proofs.Decodes.{told-fail, told-more}
-use Rattle.reading.proofs.Fields.{short-HD}
 use Rattle.picture.proofs.Forms.{lawful-HD}
 use Rattle.picture.proofs.Rounds.{one-more}
+use Rattle.reading.proofs.Decodes.{told-fail, told-more}
+use Rattle.reading.proofs.Fields.{short-HD}
 use Rattle.reading.proofs.Sectioned.{body-long}
 use Rattle.tables.specs.declared.Partition.{Partition as Stored}
 
@@ -52,7 +52,7 @@ module _ (s : List ℕ) (h : Head) where
   abbrev asked : Read (Items first)
   asked = readTable (sections first) h (drop headSize s)
 
-  none-counted : Counted (packPartition noPartition)
+  none-counted : Ranged (packPartition noPartition)
   unfolding noPartition
   none-counted = record { entries = omega arith; backpointers = omega arith; records = omega arith }
 
@@ -63,7 +63,7 @@ module _ (s : List ℕ) (h : Head) where
         reading = rw (q, e) (rw f);
         stored = rw e (rw f j);
         place = rw i (omega arith);
-        counted = subst Counted (sym j) none-counted;
+        counted = subst Ranged (sym j) none-counted;
       }
 
   module _ (k₁ : Refusal) (a₁ : ℕ) (es : Entries) (g₁ : Gathered (EN first) (entryFits h) maxEntries zeroEntry s headSize k₁ a₁ (es .count) (es .items)) (b₁ : Bool) (e₁ : b₁ ≡ isAccepted k₁) where
@@ -116,7 +116,7 @@ module _ (s : List ℕ) where
       record {
         answer = same r why n ∙ sym (ap pictureRead q);
         telling = rw (q, n .0) (rw f);
-        counted = subst Counted (sym (n .2)) (none-counted s (r .head));
+        counted = subst Ranged (sym (n .2)) (none-counted s (r .head));
       }
 
   module _ (k₁ : Refusal) (h : Head) (g : Answered zeroHead headSize s (one (HD first) FieldOutOfRange headFits s) k₁ h) (b₁ : Bool) (e₁ : b₁ ≡ isAccepted k₁) where

@@ -8,6 +8,7 @@ use lib.Dec.{eqb, leb}
 use lib.ListN.{drop, length, length-drop, take}
 use lib.Seq.{length-take-le}
 use borrow.Author.Tests.{le-leb, le-ltb, lt-leb, lt-ltb}
+use Rattle.lists.specs.Lists.{pick}
 use Rattle.protocol.specs.Bounds.{maxBackpointers, maxEntries, maxRecords}
 use Rattle.protocol.specs.Elements.{isAccepted}
 use Rattle.protocol.specs.declared.Backpointer.{Backpointer}
@@ -19,8 +20,8 @@ use Rattle.tables.specs.Slots.{zeroBackpointer, zeroEntry, zeroRecord}
 use Rattle.tables.specs.View.{backpointersOf, entriesOf, packPartition, recordsOf}
 use Rattle.picture.specs.Answers.{Answered, Tabled, itemsIn, told, toldClose, zeroHead}
 use Rattle.picture.specs.Picture.{BP, EN, HD, LG, backpointerFits, closing, entryFits, first, headFits, headSize, pictureFrom, recordFits, sections}
-use Rattle.picture.specs.Rows.{body, fail, marked, more, one, readTable}
-use Rattle.picture.specs.Standing.{handedAt, handedBehind, handedNext, handedUnder, handsBackpointer, handsClose, handsEntry, handsHead, handsRecord, stays}
+use Rattle.picture.specs.Rows.{Read, body, fail, marked, more, one, readTable}
+use Rattle.picture.specs.Standing.{handedAt, handedBehind, handedNext, handedUnder, hands, handsBackpointer, handsClose, handsEntry, handsHead, handsRecord, stays}
 use Rattle.picture.specs.declared.Handed.{Handed}
 use Rattle.picture.specs.declared.Head.{Head}
 use Rattle.picture.specs.declared.Part.the-variants.{AtBackpointer, AtClose, AtEntry, AtRecord, AtRefusal}
@@ -28,61 +29,36 @@ use Rattle.protocol.proofs.Look.{at}
 use Rattle.reading.proofs.Decodes.{told-fail, told-more}
 use Rattle.tables.specs.declared.Partition.{Partition as Stored}
 
-module _ (h : Head) (s : List ℕ) (at : ℕ) (full : Bool) (k : Refusal) (x : Entry) (g : Answered zeroEntry 18 s (body (EN first) FieldOutOfRange (entryFits h) s) k x) (b : Bool) (e : b ≡ isAccepted k) where
-  pub entry-fail : b ≡ false → (r : Handed) → r ≡ stays AtRefusal k at → r ≡ handsEntry at full (body (EN first) FieldOutOfRange (entryFits h) s)
-  unfolding handsEntry
-  entry-fail f r i = i ∙ sym (ap (handsEntry at full) (told-fail zeroEntry 18 s _ k x g (sym e ∙ f)))
+module _ {A : Type 0} (hand : A → Handed) (at : ℕ) (full : Bool) (z : A) (size : ℕ) (s : List ℕ) (R : Read A) (k : Refusal) (x : A) (g : Answered z size s R k x) (b : Bool) (e : b ≡ isAccepted k) (r : Handed) where
+  pub hand-fail : b ≡ false → r ≡ stays AtRefusal k at → r ≡ hands hand at full R
+  unfolding hands
+  hand-fail f i = i ∙ sym (ap (hands hand at full) (told-fail z size s R k x g (sym e ∙ f)))
 
   module _ (f : b ≡ true) where
-    entry-seen : body (EN first) FieldOutOfRange (entryFits h) s ≡ more x (drop 18 s)
-    entry-seen = told-more zeroEntry 18 s _ k x g (sym e ∙ f)
+    seen : hands hand at full R ≡ pick full (stays AtRefusal FieldOutOfRange at) (hand x)
+    unfolding hands
+    seen = ap (hands hand at full) (told-more z size s R k x g (sym e ∙ f))
 
-    pub entry-full : full ≡ true → (r : Handed) → r ≡ stays AtRefusal FieldOutOfRange at → r ≡ handsEntry at full (body (EN first) FieldOutOfRange (entryFits h) s)
-    unfolding handsEntry
-    entry-full y r i = i ∙ sym (ap (handsEntry at full) entry-seen ∙ rw y)
+    pub hand-full : full ≡ true → r ≡ stays AtRefusal FieldOutOfRange at → r ≡ hands hand at full R
+    hand-full y i = i ∙ sym (seen ∙ rw y)
 
-    pub entry-good : full ≡ false → (v : Backpointer) (w : Record) → v ≡ zeroBackpointer → w ≡ zeroRecord
-        → record { part = AtEntry; refusal = Accepted; head = record { partition = 0; count = 0; last = 0 }; entry = x; backpointer = v; log = w; next = at + 18 } ≡ handsEntry at full (body (EN first) FieldOutOfRange (entryFits h) s)
-    unfolding handsEntry zeroHead
-    entry-good y v w p q = sym (ap (handsEntry at full) entry-seen ∙ rw (y, p, q))
+    pub hand-good : full ≡ false → r ≡ hand x → r ≡ hands hand at full R
+    hand-good y i = i ∙ sym (seen ∙ rw y)
 
-module _ (h : Head) (s : List ℕ) (at : ℕ) (full : Bool) (k : Refusal) (x : Backpointer) (g : Answered zeroBackpointer 18 s (body (BP first) FieldOutOfRange (backpointerFits h) s) k x) (b : Bool) (e : b ≡ isAccepted k) where
-  pub backpointer-fail : b ≡ false → (r : Handed) → r ≡ stays AtRefusal k at → r ≡ handsBackpointer at full (body (BP first) FieldOutOfRange (backpointerFits h) s)
-  unfolding handsBackpointer
-  backpointer-fail f r i = i ∙ sym (ap (handsBackpointer at full) (told-fail zeroBackpointer 18 s _ k x g (sym e ∙ f)))
+module _ (at : ℕ) (e : Entry) (b : Backpointer) (r : Record) where
+  pub entry-handed : b ≡ zeroBackpointer → r ≡ zeroRecord → record { part = AtEntry; refusal = Accepted; head = record { partition = 0; count = 0; last = 0 }; entry = e; backpointer = b; log = r; next = at + 18 } ≡ handsEntry at e
+  unfolding zeroHead
+  entry-handed p q = rw (p, q)
 
-  module _ (f : b ≡ true) where
-    backpointer-seen : body (BP first) FieldOutOfRange (backpointerFits h) s ≡ more x (drop 18 s)
-    backpointer-seen = told-more zeroBackpointer 18 s _ k x g (sym e ∙ f)
+  pub backpointer-handed : e ≡ zeroEntry → r ≡ zeroRecord → record { part = AtBackpointer; refusal = Accepted; head = record { partition = 0; count = 0; last = 0 }; entry = e; backpointer = b; log = r; next = at + 18 } ≡ handsBackpointer at b
+  unfolding zeroHead
+  backpointer-handed p q = rw (p, q)
 
-    pub backpointer-full : full ≡ true → (r : Handed) → r ≡ stays AtRefusal FieldOutOfRange at → r ≡ handsBackpointer at full (body (BP first) FieldOutOfRange (backpointerFits h) s)
-    unfolding handsBackpointer
-    backpointer-full y r i = i ∙ sym (ap (handsBackpointer at full) backpointer-seen ∙ rw y)
+  pub record-handed : e ≡ zeroEntry → b ≡ zeroBackpointer → record { part = AtRecord; refusal = Accepted; head = record { partition = 0; count = 0; last = 0 }; entry = e; backpointer = b; log = r; next = at + 19 } ≡ handsRecord at r
+  unfolding zeroHead
+  record-handed p q = rw (p, q)
 
-    pub backpointer-good : full ≡ false → (v : Entry) (w : Record) → v ≡ zeroEntry → w ≡ zeroRecord
-        → record { part = AtBackpointer; refusal = Accepted; head = record { partition = 0; count = 0; last = 0 }; entry = v; backpointer = x; log = w; next = at + 18 } ≡ handsBackpointer at full (body (BP first) FieldOutOfRange (backpointerFits h) s)
-    unfolding handsBackpointer zeroHead
-    backpointer-good y v w p q = sym (ap (handsBackpointer at full) backpointer-seen ∙ rw (y, p, q))
-
-module _ (h : Head) (s : List ℕ) (at : ℕ) (full : Bool) (k : Refusal) (x : Record) (g : Answered zeroRecord 19 s (body (LG first) FieldOutOfRange (recordFits h) s) k x) (b : Bool) (e : b ≡ isAccepted k) where
-  pub record-fail : b ≡ false → (r : Handed) → r ≡ stays AtRefusal k at → r ≡ handsRecord at full (body (LG first) FieldOutOfRange (recordFits h) s)
-  unfolding handsRecord
-  record-fail f r i = i ∙ sym (ap (handsRecord at full) (told-fail zeroRecord 19 s _ k x g (sym e ∙ f)))
-
-  module _ (f : b ≡ true) where
-    record-seen : body (LG first) FieldOutOfRange (recordFits h) s ≡ more x (drop 19 s)
-    record-seen = told-more zeroRecord 19 s _ k x g (sym e ∙ f)
-
-    pub record-full : full ≡ true → (r : Handed) → r ≡ stays AtRefusal FieldOutOfRange at → r ≡ handsRecord at full (body (LG first) FieldOutOfRange (recordFits h) s)
-    unfolding handsRecord
-    record-full y r i = i ∙ sym (ap (handsRecord at full) record-seen ∙ rw y)
-
-    pub record-good : full ≡ false → (v : Entry) (w : Backpointer) → v ≡ zeroEntry → w ≡ zeroBackpointer
-        → record { part = AtRecord; refusal = Accepted; head = record { partition = 0; count = 0; last = 0 }; entry = v; backpointer = w; log = x; next = at + 19 } ≡ handsRecord at full (body (LG first) FieldOutOfRange (recordFits h) s)
-    unfolding handsRecord zeroHead
-    record-good y v w p q = sym (ap (handsRecord at full) record-seen ∙ rw (y, p, q))
-
-pub ruleset handing = (entry-fail, entry-full, entry-good, backpointer-fail, backpointer-full, backpointer-good, record-fail, record-full, record-good)
+pub ruleset handing = (hand-fail, hand-full, hand-good, entry-handed, backpointer-handed, record-handed)
 
 -- ---- the close
 
@@ -98,17 +74,17 @@ module _ (s : List ℕ) (at n : ℕ) (k : Refusal) (c : toldClose n k ≡ closin
 -- ---- behind what stands before
 
 module _ (at : ℕ) (h : Head) (a b c : ℕ) (bs : List ℕ) (r : Handed) (t : Bool) (m : t ≡ marked (EN first) bs) where
-  pub next-entry : (p : List ℕ) → (t && (eqb b 0 && eqb c 0)) ≡ true → p ≡ bs → r ≡ handsEntry at (leb maxEntries a) (body (EN first) FieldOutOfRange (entryFits h) p) → r ≡ handedNext at h a b c bs
+  pub next-entry : (p : List ℕ) → (t && (eqb b 0 && eqb c 0)) ≡ true → p ≡ bs → r ≡ hands (handsEntry at) at (leb maxEntries a) (body (EN first) FieldOutOfRange (entryFits h) p) → r ≡ handedNext at h a b c bs
   unfolding handedNext
   next-entry p y e i = i ∙ rw (e, ← m, y)
 
   module _ (y : (t && (eqb b 0 && eqb c 0)) ≡ false) (u : Bool) (n : u ≡ marked (BP first) bs) where
-    pub next-backpointer : (p : List ℕ) → (u && eqb c 0) ≡ true → p ≡ bs → r ≡ handsBackpointer at (leb maxBackpointers b) (body (BP first) FieldOutOfRange (backpointerFits h) p) → r ≡ handedNext at h a b c bs
+    pub next-backpointer : (p : List ℕ) → (u && eqb c 0) ≡ true → p ≡ bs → r ≡ hands (handsBackpointer at) at (leb maxBackpointers b) (body (BP first) FieldOutOfRange (backpointerFits h) p) → r ≡ handedNext at h a b c bs
     unfolding handedNext
     next-backpointer p z e i = i ∙ rw (e, ← m, y, ← n, z)
 
     module _ (z : (u && eqb c 0) ≡ false) (v : Bool) (o : v ≡ marked (LG first) bs) where
-      pub next-record : (p : List ℕ) → v ≡ true → p ≡ bs → r ≡ handsRecord at (leb maxRecords c) (body (LG first) FieldOutOfRange (recordFits h) p) → r ≡ handedNext at h a b c bs
+      pub next-record : (p : List ℕ) → v ≡ true → p ≡ bs → r ≡ hands (handsRecord at) at (leb maxRecords c) (body (LG first) FieldOutOfRange (recordFits h) p) → r ≡ handedNext at h a b c bs
       unfolding handedNext
       next-record p f e i = i ∙ rw (e, ← m, y, ← n, z, ← o, f)
 

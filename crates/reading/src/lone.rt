@@ -1,8 +1,7 @@
 // The check of a lone picture: what the reader says of it, and then what its tables show alone.
 ghost use mathlib.Core.Path.{_≡_};
-ghost use Rattle.tables.specs.View.{viewPartition};
+ghost use Rattle.tables.specs.View.{viewPartition, Ranged};
 ghost use Rattle.picture.specs.Lone.{orderAlone, lone};
-ghost use Rattle.picture.specs.Answers.{Counted};
 use crate::numbers::accepted;
 use crate::read_picture;
 use order::partition;
@@ -11,7 +10,7 @@ use tables::Partition;
 
 // O2, O3, O5 and the first half of O4.
 fn order_alone(x: Partition) -> bool
-    requires { ⌜ Counted x ⌝ }
+    requires { ⌜ Ranged x ⌝ }
     ensures { λ r. ⌜ r ≡ orderAlone (viewPartition x) ⌝ }
 {
     let entries = x.entries;

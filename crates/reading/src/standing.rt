@@ -6,7 +6,7 @@ ghost use Rattle.protocol.specs.declared.Refusal.the-variants.{FieldOutOfRange}
 ghost use Rattle.protocol.specs.Bounds.{maxEntries, maxBackpointers, maxRecords};
 ghost use Rattle.picture.specs.Rows.{body};
 ghost use Rattle.picture.specs.Picture.{first, EN, BP, LG, entryFits, backpointerFits, recordFits, closing};
-ghost use Rattle.picture.specs.Standing.{farthest, stays, handsHead, handsEntry, handsBackpointer, handsRecord, handsClose, handedNext, handedAt};
+ghost use Rattle.picture.specs.Standing.{farthest, stays, handsHead, hands, handsEntry, handsBackpointer, handsRecord, handsClose, handedNext, handedAt};
 use crate::bytes;
 use crate::decode;
 use crate::numbers::accepted;
@@ -71,7 +71,7 @@ fn hand_head(h: Head) -> Handed
 
 fn hand_entry(s: &[u8], h: Head, at: usize, full: bool) -> Handed
     requires { ⌜ at ≤ farthest ⌝ }
-    ensures { λ r. ⌜ r ≡ handsEntry at full (body (EN first) FieldOutOfRange (entryFits h) (now (s .entry))) ⌝ }
+    ensures { λ r. ⌜ r ≡ hands (handsEntry at) at full (body (EN first) FieldOutOfRange (entryFits h) (now (s .entry))) ⌝ }
 {
     let got = decode::decode_entry(s, h);
     let refusal = got.refusal;
@@ -101,7 +101,7 @@ fn hand_entry(s: &[u8], h: Head, at: usize, full: bool) -> Handed
 
 fn hand_backpointer(s: &[u8], h: Head, at: usize, full: bool) -> Handed
     requires { ⌜ at ≤ farthest ⌝ }
-    ensures { λ r. ⌜ r ≡ handsBackpointer at full (body (BP first) FieldOutOfRange (backpointerFits h) (now (s .entry))) ⌝ }
+    ensures { λ r. ⌜ r ≡ hands (handsBackpointer at) at full (body (BP first) FieldOutOfRange (backpointerFits h) (now (s .entry))) ⌝ }
 {
     let got = decode::decode_backpointer(s, h);
     let refusal = got.refusal;
@@ -131,7 +131,7 @@ fn hand_backpointer(s: &[u8], h: Head, at: usize, full: bool) -> Handed
 
 fn hand_record(s: &[u8], h: Head, at: usize, full: bool) -> Handed
     requires { ⌜ at ≤ farthest ⌝ }
-    ensures { λ r. ⌜ r ≡ handsRecord at full (body (LG first) FieldOutOfRange (recordFits h) (now (s .entry))) ⌝ }
+    ensures { λ r. ⌜ r ≡ hands (handsRecord at) at full (body (LG first) FieldOutOfRange (recordFits h) (now (s .entry))) ⌝ }
 {
     let got = decode::decode_record(s, h);
     let refusal = got.refusal;
