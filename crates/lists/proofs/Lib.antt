@@ -16,6 +16,6 @@ pub mod Gaps
 pub mod Arrays
 pub mod Finds
 pub mod Images
-pub mod Gaps
 pub mod Alls
 pub mod Repeats
+pub mod Backs

@@ -1,0 +1,7 @@
+pub mod Rows
+pub mod Picture
+pub mod Answers
+pub mod Lone
+pub mod Store
+pub mod Standing
+pub mod Claims

@@ -1,0 +1,2 @@
+pub mod Puttings
+pub mod Encodes

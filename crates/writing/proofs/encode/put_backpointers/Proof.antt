@@ -1,0 +1,56 @@
+use Prim.Native.Nat.{_-_, _≤_}
+use Rattle.tables.proofs.Known.{backpointers-fit}
+use Rattle.picture.specs.Picture.{first, BP}
+use Rattle.writing.proofs.Puttings.{Laying, lay-end, lay-room, lay-start, lay-turn}
+use borrow.Author.Needs.{needs}
+use Rattle.writing.proofs.encode.put_backpointers.Statement.{statement}
+use Rattle.writing.proofs.encode.put_backpointers.Tie as tie
+
+abbrev Inv-loop : tie.InvT-loop
+Inv-loop buf₀ from backpointers n at₀ i₀ buf at i = (i ≤ n) × Laying (BP first) 18 buf₀ from (backpointers .items) buf at i
+
+abbrev μ-loop : tie.MeasureT-loop
+μ-loop buf₀ from backpointers n at₀ i₀ buf at i = n - i
+
+loop-holds : tie.Need-loop-holds Inv-loop μ-loop
+loop-holds c = (search needs, search (lay-start, needs))
+
+mul-x : tie.Need-mul-x Inv-loop μ-loop
+mul-x c = search (backpointers-fit, needs)
+
+element-copy-out-x : tie.Need-element-copy-out-x Inv-loop μ-loop
+element-copy-out-x c = search (backpointers-fit, needs)
+
+put-backpointer-requires : tie.Need-put-backpointer-requires Inv-loop μ-loop
+put-backpointer-requires c κs = search (lay-room, needs)
+
+add-i : tie.Need-add-i Inv-loop μ-loop
+add-i c = search needs
+
+loop-less : tie.Need-loop-less Inv-loop μ-loop
+loop-less c = search needs
+
+loop-again : tie.Need-loop-again Inv-loop μ-loop
+loop-again c = (search needs, search (lay-turn, backpointers-fit, needs))
+
+same-length : tie.Need-same-length Inv-loop μ-loop
+same-length c = search needs
+
+returns : tie.Need-returns Inv-loop μ-loop
+returns c = search (lay-end, needs)
+
+pub put-backpointers-spec : {M : Type 1} → statement M
+put-backpointers-spec =
+    tie.close
+    (tie.spec
+    Inv-loop
+    μ-loop
+    loop-holds
+    mul-x
+    element-copy-out-x
+    put-backpointer-requires
+    add-i
+    loop-less
+    loop-again
+    same-length
+    returns)

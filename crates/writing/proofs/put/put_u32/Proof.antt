@@ -1,0 +1,63 @@
+use lib.ListN.{length-set}
+use native.Mathlib.Omega.{arith}
+use Rattle.codec.proofs.Puts.{puts}
+use borrow.Author.Needs.{needs}
+use Rattle.writing.proofs.put.put_u32.Statement.{statement}
+use Rattle.writing.proofs.put.put_u32.Tie as tie
+
+cast-buf : tie.Need-cast-buf
+cast-buf c = search needs
+
+slice-write-buf : tie.Need-slice-write-buf
+slice-write-buf c = search needs
+
+cast-buf-2 : tie.Need-cast-buf-2
+cast-buf-2 c = search needs
+
+add-buf : tie.Need-add-buf
+add-buf c = search needs
+
+slice-write-buf-2 : tie.Need-slice-write-buf-2
+slice-write-buf-2 c = simp length-set (omega arith)
+
+cast-buf-3 : tie.Need-cast-buf-3
+cast-buf-3 c = search needs
+
+add-buf-2 : tie.Need-add-buf-2
+add-buf-2 c = search needs
+
+slice-write-buf-3 : tie.Need-slice-write-buf-3
+slice-write-buf-3 c = simp length-set (omega arith)
+
+cast-buf-4 : tie.Need-cast-buf-4
+cast-buf-4 c = search needs
+
+add-buf-3 : tie.Need-add-buf-3
+add-buf-3 c = search needs
+
+slice-write-buf-4 : tie.Need-slice-write-buf-4
+slice-write-buf-4 c = simp length-set (omega arith)
+
+same-length : tie.Need-same-length
+same-length c = search needs
+
+returns : tie.Need-returns
+returns c = search (puts, needs)
+
+pub put-u32-spec : {M : Type 1} → statement M
+put-u32-spec =
+    tie.close
+    (tie.spec
+    cast-buf
+    slice-write-buf
+    cast-buf-2
+    add-buf
+    slice-write-buf-2
+    cast-buf-3
+    add-buf-2
+    slice-write-buf-3
+    cast-buf-4
+    add-buf-3
+    slice-write-buf-4
+    same-length
+    returns)
