@@ -15,3 +15,4 @@ pub mod Stores
 pub mod Arrays
 pub mod Finds
 pub mod Images
+pub mod Cuts

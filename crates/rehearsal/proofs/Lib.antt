@@ -1,0 +1,5 @@
+pub mod Words
+pub mod Numbers
+pub mod Spellings
+pub mod Rows
+pub mod Commands

@@ -1,0 +1,63 @@
+// The rehearsal (document 01, 'The rehearsal program'): what a line asks, and the text that answers it.
+use names::Name;
+
+pub mod line;
+
+// The bytes of a line, the LF that ends it not counted.
+pub const LINE_BYTES: usize = 64;
+
+// So many words a command has at most behind its letter.
+pub const WORDS: usize = 5;
+
+pub const SPACE: u8 = 32;
+
+pub const LF: u8 = 10;
+
+pub const DIGIT_ZERO: u8 = 48;
+
+pub const DIGIT_NINE: u8 = 57;
+
+// The largest number of a line.
+pub const LARGEST_NUMBER: u64 = 4294967295;
+
+pub enum Verb {
+    Open,
+    Link,
+    Create,
+    Unlink,
+    Advance,
+    Deliver,
+    Cut,
+    Crash,
+    Recover,
+    Settle,
+    Totals,
+    Square,
+    NotUnderstood,
+}
+
+// What a line asks. The number of the word at place k stands at place k, and 0 where that word is a name, or where there is none.
+pub struct Command {
+    pub verb: Verb,
+    pub name: Name,
+    pub numbers: [u32; WORDS],
+}
+
+// What a word is, where it should be a number: its value, and the place behind it.
+pub enum Number {
+    Value(u32, usize),
+    None,
+}
+
+// The name that a word spells, and the place behind the word.
+pub struct Spelling {
+    pub name: Name,
+    pub next: usize,
+}
+
+// A row of the table of commands: so many words behind the letter, and which of them is the name (`words`, where none is).
+pub struct Shape {
+    pub verb: Verb,
+    pub words: usize,
+    pub name: usize,
+}
