@@ -2,6 +2,7 @@
 use names::Name;
 
 pub mod line;
+pub mod text;
 
 // The bytes of a line, the LF that ends it not counted.
 pub const LINE_BYTES: usize = 64;
@@ -16,6 +17,9 @@ pub const LF: u8 = 10;
 pub const DIGIT_ZERO: u8 = 48;
 
 pub const DIGIT_NINE: u8 = 57;
+
+// So many numbers a line of the output has at most behind its own: the refusal and sixteen queue lengths.
+pub const NUMBERS: usize = 17;
 
 // The largest number of a line.
 pub const LARGEST_NUMBER: u64 = 4294967295;
@@ -60,4 +64,10 @@ pub struct Shape {
     pub verb: Verb,
     pub words: usize,
     pub name: usize,
+}
+
+// What a line answers, behind its own number.
+pub struct Numbers {
+    pub count: usize,
+    pub values: [u32; NUMBERS],
 }

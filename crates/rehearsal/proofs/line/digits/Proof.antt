@@ -1,4 +1,4 @@
-use Rattle.rehearsal.proofs.Numbers.{Valuing, valuing}
+use Rattle.rehearsal.proofs.Values.{Valuing, valuing}
 use Rattle.rehearsal.specs.Line.{digitsAt}
 use lib.ListN.{length}
 use Prim.Native.Nat.{_-_}

@@ -1,4 +1,4 @@
-use Rattle.rehearsal.proofs.Numbers.{numbering}
+use Rattle.rehearsal.proofs.Values.{numbering}
 use borrow.Author.Needs.{needs}
 use Rattle.rehearsal.proofs.line.number_at.Statement.{statement}
 use Rattle.rehearsal.proofs.line.number_at.Tie as tie
