@@ -6,3 +6,5 @@ pub mod Commands
 pub mod Decimals
 pub mod Buffers
 pub mod Spaces
+pub mod Examples
+pub mod Returns

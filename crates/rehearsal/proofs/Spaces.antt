@@ -4,16 +4,23 @@ use mathlib.Core.List.{List, [], _++_, _∷_, append-assoc, append-nil}
 use mathlib.Core.Path.{_∙_, _≡_, ap, refl, sym}
 use Prim.Native.Nat.{_*_, _+_, _<_, _^_, _≤_, suc, ℕ}
 use native.Mathlib.Numerals.{add-one}
+use native.Mathlib.Nat.{lt-of-le-of-lt}
 use native.Mathlib.Omega.{arith}
+use lib.Dec.{leb, lit<}
 use lib.ListN.{drop, drop-of-length-le, getD, length, length-append, length-take, take, take-append-drop}
 use lib.Seq.{drop-cons, getD-take, length-take-le, take-all, take-suc}
+use borrow.Author.Tests.{leb-true}
 use mir.Syntax.{w64}
 use mir.Val.{Fits, Val}
 use denote.Laws.{Is}
+use Rattle.lists.specs.Lists.{all}
 use Rattle.lists.proofs.Arrays.{length-of}
+use Rattle.lists.proofs.Tests.{and-left, and-right}
+use Rattle.protocol.specs.Bounds.{largestNumber}
 use Rattle.rehearsal.specs.Line.{space}
 use Rattle.rehearsal.specs.Text.{Adds, Numbers, Puts, decimalOf, lineEnd, lineText, maxNumbers, numbersOf, restText, spaced}
 use Rattle.rehearsal.proofs.Buffers.{adds-length, adds-nothing, adds-on, adds-puts, puts-adds}
+use Rattle.rehearsal.proofs.Decimals.{digits-below, digits-most}
 use Rattle.rehearsal.proofs.Numbers.{the-row}
 
 -- ---- `counted`
@@ -173,3 +180,17 @@ module _ (n : ℕ) (ns : List ℕ) where
     line-put b q s = adds-puts (decimalOf n ++ restText ns) out at b q h (adds-on (decimalOf n) out at a p (restText ns) b q fits-first first s)
 
 pub ruleset lining = (line-size, line-room, line-put)
+
+-- ---- how long a text is at most: ten digits to a number of a line, twenty to the line's own
+spaced-most : (ns : List ℕ) → all (λ (n : ℕ). leb n largestNumber) ns ≡ true → length (spaced ns) ≤ 11 * length ns
+unfolding spaced all
+spaced-most [] e = omega arith
+spaced-most (n ∷ ns) e =
+    let h : n ≤ largestNumber = leb-true _ _ (and-left _ _ e) in
+    let r = spaced-most ns (and-right (leb n largestNumber) _ e) in
+    let d = digits-below 9 n (lt-of-le-of-lt h (lit< tt)) in
+    let l = length-append (decimalOf n) (spaced ns) in
+    omega arith
+
+pub line-most : (n : ℕ) (ns : List ℕ) → n < 2 ^ 64 → all (λ (n : ℕ). leb n largestNumber) ns ≡ true → length (lineText (n ∷ ns)) ≤ 21 + 11 * length ns
+line-most n ns h e = omega (arith, line-length n ns, rest-length ns, digits-most n h, spaced-most ns e)

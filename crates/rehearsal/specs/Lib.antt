@@ -1,2 +1,5 @@
 pub mod Line
 pub mod Text
+pub mod Rehearsal
+pub mod Worked
+pub mod Claims

@@ -1,4 +1,6 @@
 // The rehearsal (document 01, 'The rehearsal program'): what a line asks, and the text that answers it.
+// What is proved of the definitions in specs/ stands in the contract of `claims`, and the function does nothing.
+ghost use Rattle.rehearsal.specs.Claims.{Worked, ReadBack, ShortText};
 use names::Name;
 
 pub mod line;
@@ -71,3 +73,7 @@ pub struct Numbers {
     pub count: usize,
     pub values: [u32; NUMBERS],
 }
+
+pub fn claims()
+    ensures { λ r. ⌜ Worked × ReadBack × ShortText ⌝ }
+{}
