@@ -1,20 +1,19 @@
 -- Text in a buffer: what a byte, a number and a line of numbers leave there.
 use mathlib.Core.Bool.{Bool, false, true}
-use mathlib.Core.List.{List, [], _++_, _∷_, append-assoc, append-nil}
+use mathlib.Core.List.{List, [], _++_, _∷_, append-assoc}
 use mathlib.Core.Path.{_∙_, _≡_, ap, refl, sym}
-use Prim.Native.Nat.{_+_, _-_, _<_, _^_, _≤_, suc, ℕ}
+use Prim.Native.Nat.{_+_, _-_, _<_, _^_, _≤_, ℕ}
 use native.Mathlib.Numerals.{add-one}
 use native.Mathlib.Omega.{arith}
 use lib.Dec.{leb}
-use lib.ListN.{drop, getD, length, length-append, length-drop, set, take, take-append-drop}
+use lib.ListN.{drop, length, length-append, length-drop, set, take, take-append-drop}
 use lib.Seq.{drop-at, drop-drop, length-take-le, set-split, take-at}
-use borrow.Author.Tests.{le-leb, leb-false, leb-true, lt-leb}
+use borrow.Author.Tests.{le-leb, leb-true, lt-leb}
 use mir.Syntax.{w64}
 use mir.Val.{Fits}
-use Rattle.lists.specs.Lists.{pick}
 use Rattle.lists.proofs.Tests.{bool-same}
 use Rattle.rehearsal.specs.Line.{space}
-use Rattle.rehearsal.specs.Text.{Adds, Puts, decimalOf, hasRoom, lineEnd, lineText, written}
+use Rattle.rehearsal.specs.Text.{Adds, Puts, decimalOf, hasRoom, written}
 
 -- ---- `has_room`
 module _ (len at size : ℕ) where

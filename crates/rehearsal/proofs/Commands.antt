@@ -1,11 +1,11 @@
 -- Gathering a command's words: the loop over the words of a row, and what a whole line asks.
-use mathlib.Core.Bool.{Bool, _&&_, false, true}
+use mathlib.Core.Bool.{Bool, false, true}
 use mathlib.Core.List.{List, [], _++_, _∷_, append-assoc, append-nil}
-use mathlib.Core.Path.{_∙_, _≡_, ap, refl, subst, sym}
-use Prim.Native.Nat.{_*_, _+_, _<_, _≤_, suc, zero, ℕ}
+use mathlib.Core.Path.{_∙_, _≡_, ap, refl, sym}
+use Prim.Native.Nat.{_*_, _+_, _<_, _≤_, suc, ℕ}
 use native.Mathlib.Numerals.{add-one}
 use native.Mathlib.Omega.{arith}
-use lib.Dec.{eqb, leb}
+use lib.Dec.{eqb}
 use lib.ListN.{drop, drop-of-length-le, getD, length, length-append, replicate, set}
 use lib.Seq.{drop-cons}
 use borrow.Author.Tests.{eq-eqb, eqb-false, eqb-true, le-leb, lt-leb, ne-eqb}
@@ -13,14 +13,15 @@ use mir.Syntax.{w64}
 use mir.Val.{Fits}
 use Rattle.lists.specs.Lists.{isSome, pad, pick}
 use Rattle.lists.proofs.Cuts.{pad-more}
-use Rattle.lists.proofs.Fills.{length-pad, push-at}
+use Rattle.lists.proofs.Fills.{push-at}
 use Rattle.lists.proofs.Keep.{none-of}
 use Rattle.lists.proofs.Tests.{no-true}
 use Rattle.names.specs.Names.{nameOf, zeroName}
 use Rattle.names.specs.declared.Name.{Name}
-use Rattle.rehearsal.specs.Line.{Command, Form, None, Number, Row, Shape, Spelling, Value, Verb, aName, aNumber, asked, behind, command, commandOf, fits, isLetter, isName, isNumber, isOf, lineBytes, maxWords, nameAmong, nameAt, nameIn, nameplace, notUnderstood, numberAt, rowFor, shapeOf, space, upTo, valueOf, values}
+use Rattle.rehearsal.specs.Line.{Command, Form, Row, Verb, aName, aNumber, asked, behind, command, commandOf, fits, isNumber, isOf, lineBytes, maxWords, nameAmong, notUnderstood, rowFor, space, upTo, valueOf, values}
+use Rattle.rehearsal.specs.Places.{None, Number, Shape, Spelling, Value, hasLetter, isName, nameAt, nameplace, numberAt, shapeOf}
 use Rattle.rehearsal.proofs.Rows.{no-row, row-named, row-other, row-short}
-use Rattle.rehearsal.proofs.Words.{behind-more, behind-past, behind-stop, next-behind, next-stop, next-within}
+use Rattle.rehearsal.proofs.Words.{behind-past, behind-stop, next-behind, next-stop, next-within}
 
 -- the command of the forms and words that are left, where the name so far is s and the numbers so far are ns
 unfoldable pub commandOn : Verb → Name → List ℕ → List Form → List (List ℕ) → Command
@@ -96,7 +97,7 @@ module _ (s : List ℕ) where
     pub filled : numbers ≡ pad maxWords 0 read
     pub left : asked R (behind space s) ≡ commandOn (R .verb) name read (drop k (R .forms)) (behind space (drop at s))
 
-  pub gather-start : isLetter s ≡ true → (numbers : List ℕ) (n : Name) → numbers ≡ replicate maxWords 0 → n ≡ zeroName → Gathering numbers n 1 0
+  pub gather-start : hasLetter s ≡ true → (numbers : List ℕ) (n : Name) → numbers ≡ replicate maxWords 0 → n ≡ zeroName → Gathering numbers n 1 0
   unfolding asked commandOn pad
   gather-start t numbers n e f =
       let l : length (upTo space s) ≡ 1 = eqb-true _ _ t in
@@ -205,7 +206,7 @@ module _ (s : List ℕ) where
   unfolding commandOf
   line-long h u y = simp (lt-leb _ _ h) y
 
-  module _ (b : Bool) (e : b ≡ isLetter s) where
+  module _ (b : Bool) (e : b ≡ hasLetter s) where
     pub line-unlettered : length s ≤ lineBytes → b ≡ false → (u : Command) → u ≡ notUnderstood → u ≡ commandOf s
     unfolding commandOf
     line-unlettered h z u y =
@@ -216,7 +217,7 @@ module _ (s : List ℕ) where
     line-asked h u y = simp (le-leb _ _ h) y
 
     module _ (z : b ≡ true) where
-      pub line-lettered : isLetter s ≡ true
+      pub line-lettered : hasLetter s ≡ true
       line-lettered = sym e ∙ z
 
       pub line-some : 0 < length s

@@ -12,8 +12,8 @@ use mir.Syntax.{w64}
 use mir.Val.{Fits}
 use Rattle.lists.proofs.Cuts.{set-before}
 use Rattle.lists.proofs.Tests.{byTest}
-use Rattle.rehearsal.specs.Line.{digitZero}
-use Rattle.rehearsal.specs.Text.{decimalOf, digitsWithin, written}
+use Rattle.rehearsal.specs.Line.{base, digitZero}
+use Rattle.rehearsal.specs.Text.{decimalOf, digitsWithin, mostDigits, written}
 
 -- any count that is large enough gives the same digits
 within-any : (k j n : ℕ) → n < k → n < j → digitsWithin k n ≡ digitsWithin j n
@@ -21,45 +21,46 @@ unfolding digitsWithin
 within-any zero j n h g = absurd (omega arith)
 within-any (suc k) zero n h g = absurd (omega arith)
 within-any (suc k) (suc j) n h g =
-    byTest (ltb n 10)
+    byTest (ltb n base)
     (λ t. rw (t, digitsWithin) refl)
     (λ t.
-    let l : 10 ≤ n = ltb-false _ _ t in
-    let e = within-any k j (n / 10) (omega arith) (omega arith) in
-    rw (t, digitsWithin) (ap (λ (w : List ℕ). w ++ (digitZero + n % 10) ∷ []) e))
+    let l : base ≤ n = ltb-false _ _ t in
+    let e = within-any k j (n / base) (omega arith) (omega arith) in
+    rw (t, digitsWithin) (ap (λ (w : List ℕ). w ++ (digitZero + n % base) ∷ []) e))
 
-pub decimal-one : (n : ℕ) → n ≤ 9 → decimalOf n ≡ (digitZero + n) ∷ []
+pub decimal-one : (n : ℕ) → n < base → decimalOf n ≡ (digitZero + n) ∷ []
 unfolding decimalOf digitsWithin
-decimal-one n h = let t : ltb n 10 ≡ true = lt-ltb n 10 (omega arith) in rw (t, digitsWithin) refl
+decimal-one n h = let t : ltb n base ≡ true = lt-ltb n base (omega arith) in rw (t, digitsWithin) refl
 
-pub decimal-more : (n : ℕ) → 9 < n → decimalOf n ≡ decimalOf (n / 10) ++ (digitZero + n % 10) ∷ []
+pub decimal-more : (n : ℕ) → base ≤ n → decimalOf n ≡ decimalOf (n / base) ++ (digitZero + n % base) ∷ []
 unfolding decimalOf digitsWithin
 decimal-more n h =
-    let t : ltb n 10 ≡ false = le-ltb n 10 h in
-    rw (t, digitsWithin) (ap (λ (w : List ℕ). w ++ (digitZero + n % 10) ∷ []) (within-any n (suc (n / 10)) (n / 10) (omega arith) (omega arith)))
+    let t : ltb n base ≡ false = le-ltb n base h in
+    rw (t, digitsWithin) (ap (λ (w : List ℕ). w ++ (digitZero + n % base) ∷ []) (within-any n (suc (n / base)) (n / base) (omega arith) (omega arith)))
 
-length-more : (n : ℕ) → 9 < n → length (decimalOf n) ≡ length (decimalOf (n / 10)) + 1
-length-more n h = ap length (decimal-more n h) ∙ length-append (decimalOf (n / 10)) ((digitZero + n % 10) ∷ [])
+length-more : (n : ℕ) → base ≤ n → length (decimalOf n) ≡ length (decimalOf (n / base)) + 1
+length-more n h = ap length (decimal-more n h) ∙ length-append (decimalOf (n / base)) ((digitZero + n % base) ∷ [])
 
 -- a number below the (k + 1)-th power of ten has at most k + 1 digits
-pub digits-below : (k n : ℕ) → n < 10 ^ suc k → length (decimalOf n) ≤ suc k
+pub digits-below : (k n : ℕ) → n < base ^ suc k → length (decimalOf n) ≤ suc k
 digits-below zero n h = rw (decimal-one n (omega arith)) (omega arith)
 digits-below (suc k) n h =
-    byTest (ltb 9 n)
+    byTest (ltb n base)
+    (λ t. rw (decimal-one n (ltb-true _ _ t)) (omega arith))
     (λ t.
-    let l : n < 10 ^ suc k * 10 = rw pow-suc at h in
-    let r = digits-below k (n / 10) (omega arith) in
-    omega (arith, length-more n (ltb-true _ _ t)))
-    (λ t. rw (decimal-one n (ltb-false _ _ t)) (omega arith))
+    let l : n < base ^ suc k * base = rw pow-suc at h in
+    let m : base ≤ n = ltb-false _ _ t in
+    let r = digits-below k (n / base) (omega arith) in
+    omega (arith, length-more n m))
 
-pub digits-most : (n : ℕ) → n < 2 ^ 64 → length (decimalOf n) ≤ 20
-digits-most n h = let l : 2 ^ 64 ≤ 10 ^ 20 = lit≤ tt in digits-below 19 n (lt-of-lt-of-le h l)
+pub digits-most : (n : ℕ) → n < 2 ^ 64 → length (decimalOf n) ≤ mostDigits
+digits-most n h = let l : 2 ^ 64 ≤ base ^ mostDigits = lit≤ tt in digits-below 19 n (lt-of-lt-of-le h l)
 
 pub digits-least : (n : ℕ) → 1 ≤ length (decimalOf n)
 digits-least n =
-    byTest (ltb 9 n)
-    (λ t. omega (arith, length-more n (ltb-true _ _ t)))
-    (λ t. rw (decimal-one n (ltb-false _ _ t)) (omega arith))
+    byTest (ltb n base)
+    (λ t. rw (decimal-one n (ltb-true _ _ t)) (omega arith))
+    (λ t. omega (arith, length-more n (ltb-false _ _ t)))
 
 -- ---- `digit_count`: k counts the digits that are gone, and one of those that are left
 module _ (n : ℕ) where
@@ -70,16 +71,16 @@ module _ (n : ℕ) where
   size-start = record { left = omega arith }
 
   module _ (k rest : ℕ) (r : Sizing k rest) where
-    pub size-turn : 9 < rest → Sizing (k + 1) (rest / 10)
+    pub size-turn : base ≤ rest → Sizing (k + 1) (rest / base)
     size-turn h = record { left = omega (arith, length-more rest h, r .left) }
 
     pub size-fits : n < 2 ^ 64 → Fits w64 (k + 1)
     size-fits h = record { fits = omega (arith, r .left, digits-most n h, digits-least rest) }
 
-    pub size-is : rest ≤ 9 → k ≡ length (decimalOf n)
+    pub size-is : rest < base → k ≡ length (decimalOf n)
     size-is h = let e = ap length (decimal-one rest h) in omega (arith, r .left)
 
-    pub size-most : n < 2 ^ 64 → rest ≤ 9 → k ≤ 20
+    pub size-most : n < 2 ^ 64 → rest < base → k ≤ mostDigits
     size-most g h = omega (arith, size-is h, digits-most n g)
 
 pub ruleset sizing = (size-start, size-turn, size-fits, size-is, size-most)
@@ -118,7 +119,7 @@ module _ (before : List ℕ) (end n : ℕ) where
         let b : after ≡ take (at - 1 + 1) before ++ (r .tail ++ drop end before) = r .bytes ∙ rw e in
         rw b (set-before before (r .tail ++ drop end before) (at - 1) d (omega (arith, r .same)))
 
-    pub write-turn : 9 < rest → (d : ℕ) → d ≡ digitZero + rest % 10 → Writing (set after (at - 1) d) (at - 1) (rest / 10)
+    pub write-turn : base ≤ rest → (d : ℕ) → d ≡ digitZero + rest % base → Writing (set after (at - 1) d) (at - 1) (rest / base)
     write-turn h d e =
         let l = write-least in
         record {
@@ -131,7 +132,7 @@ module _ (before : List ℕ) (end n : ℕ) where
           same = write-same d;
         }
 
-    pub write-done : rest ≤ 9 → (d : ℕ) → d ≡ digitZero + rest → set after (at - 1) d ≡ written before (end - length (decimalOf n)) (decimalOf n)
+    pub write-done : rest < base → (d : ℕ) → d ≡ digitZero + rest → set after (at - 1) d ≡ written before (end - length (decimalOf n)) (decimalOf n)
     unfolding written
     write-done h d e =
         let l = write-least in

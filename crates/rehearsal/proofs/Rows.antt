@@ -1,34 +1,38 @@
 -- The table of commands: what holds of each row, and how a letter finds its row.
-use mathlib.Core.Bool.{Bool, _&&_, false, not, true}
-use mathlib.Core.List.{List, [], _∷_}
+use mathlib.Core.Bool.{Bool, false, not, true}
+use mathlib.Core.List.{List, List·Memᴰ, [], _∷_}
 use mathlib.Core.Path.{_∙_, _≡_, ap, refl, sym}
 use Prim.Native.Nat.{_<_, _≤_, ℕ}
 use lib.Dec.{eqb, leb}
 use lib.ListN.{getD, length}
-use borrow.Author.Tests.{eq-eqb, eqb-false, eqb-true, leb-true, ne-eqb}
+use borrow.Author.Tests.{eqb-true, leb-true}
 use Rattle.lists.specs.Lists.{all, below, keep, pick}
 use Rattle.lists.proofs.Keep.{keep-cons-other, kept}
 use Rattle.lists.proofs.Members.{all-get, seen-mem}
-use Rattle.lists.proofs.Tests.{and-left, and-right, below-at, no-true, not-true}
+use Rattle.lists.proofs.Tests.{below-at, byTest, no-true, not-true}
 use Rattle.names.specs.Names.{sameBytes}
 use Rattle.names.specs.Text.{bytes}
 use Rattle.names.proofs.Laws.{bytes-true}
-use Rattle.rehearsal.specs.Line.{Form, Row, Shape, aNumber, asked, firstRow, fits, isName, maxWords, nameAmong, nameplace, noRow, notUnderstood, rowFor, shapeOf, table, values}
+use Rattle.rehearsal.specs.Line.{Advance, Command, Crash, Create, Cut, Deliver, Link, NotUnderstood, Open, Recover, Row, Settle, Square, Totals, Unlink, Verb, aNumber, asked, bears, behind, commandOf, firstRow, fits, lineBytes, maxWords, nameAmong, noRow, notUnderstood, rowFor, space, table, upTo, values}
+use Rattle.rehearsal.specs.Places.{Shape, isName, nameplace, shapeOf}
 
 -- the table and its search opened: a proof that names it computes with them
 unfoldable pub tabled : Unit {0}
 unfolding all below bytes keep nameplace rowFor sameBytes table
 tabled = tt
 
--- ---- what holds of every row, and of the one that stands for none
-module _ (f : Row → Bool) (t : all f table ≡ true) (n : f noRow ≡ true) (w : List ℕ) where
-  of-row : f (rowFor w) ≡ true
-  unfolding rowFor
-  of-row = go (keep (λ (r : Row). sameBytes (r .letter) w) table) refl
-    where
-      go : (l : List Row) → keep (λ (r : Row). sameBytes (r .letter) w) table ≡ l → f (firstRow l) ≡ true
-      go [] e = n
-      go (r ∷ l) e = all-get f table t r (seen-mem (λ (r : Row). sameBytes (r .letter) w) table l r e)
+-- ---- the row that a word finds: one of the table that bears it, or none
+row-cases : (w : List ℕ) (P : Row → Type 0) → P noRow → ((r : Row) → List·Memᴰ r table → bears w r ≡ true → P r) → P (rowFor w)
+unfolding rowFor
+row-cases w P n f = go (keep (bears w) table) refl
+  where
+    go : (l : List Row) → keep (bears w) table ≡ l → P (firstRow l)
+    go [] e = n
+    go (r ∷ l) e = f r (seen-mem (bears w) table l r e) (kept (bears w) table r l e)
+
+-- a test that every row passes, and the one that stands for none
+of-row : (f : Row → Bool) → all f table ≡ true → f noRow ≡ true → (w : List ℕ) → f (rowFor w) ≡ true
+of-row f t n w = row-cases w (λ (r : Row). f r ≡ true) n (λ r m b. all-get f table t r m)
 
 pub row-short : (w : List ℕ) → length (rowFor w .forms) ≤ maxWords
 unfolding tabled
@@ -66,15 +70,10 @@ unfolding tabled alone
 rows-alone = refl
 
 pub row-other : (w : List ℕ) → (length w ≡ 1 → ⊥) → rowFor w ≡ noRow
-unfolding rowFor alone
-row-other w h = go (keep (λ (r : Row). sameBytes (r .letter) w) table) refl
-  where
-    go : (l : List Row) → keep (λ (r : Row). sameBytes (r .letter) w) table ≡ l → firstRow l ≡ noRow
-    go [] e = refl
-    go (r ∷ l) e =
-        let m : r .letter ≡ w = bytes-true (r .letter) w (kept (λ (r : Row). sameBytes (r .letter) w) table r l e) in
-        let a : eqb (length (r .letter)) 1 ≡ true = all-get alone table rows-alone r (seen-mem (λ (r : Row). sameBytes (r .letter) w) table l r e) in
-        absurd (h (ap length (sym m) ∙ eqb-true _ _ a))
+unfolding alone
+row-other w h =
+    row-cases w (λ (r : Row). r ≡ noRow) refl
+    (λ r m b. absurd (h (ap length (sym (bytes-true (r .letter) w b)) ∙ eqb-true _ _ (all-get alone table rows-alone r m))))
 
 pub no-row : (ws : List (List ℕ)) → asked noRow ws ≡ notUnderstood
 unfolding asked values nameAmong notUnderstood
@@ -83,6 +82,50 @@ no-row ws = go (fits [] ws)
     go : (b : Bool) → pick b notUnderstood notUnderstood ≡ notUnderstood
     go true = refl
     go false = refl
+
+-- ---- no row but the one that stands for none is not understood
+understood : Verb → Bool
+understood Open = true
+understood Link = true
+understood Create = true
+understood Unlink = true
+understood Advance = true
+understood Deliver = true
+understood Cut = true
+understood Crash = true
+understood Recover = true
+understood Settle = true
+understood Totals = true
+understood Square = true
+understood NotUnderstood = false
+
+rows-understood : all (λ (r : Row). understood (r .verb)) table ≡ true
+unfolding tabled understood
+rows-understood = refl
+
+row-none : (w : List ℕ) → rowFor w .verb ≡ NotUnderstood → rowFor w ≡ noRow
+unfolding understood
+row-none w =
+    row-cases w (λ (r : Row). r .verb ≡ NotUnderstood → r ≡ noRow) (λ v. refl)
+    (λ r m b v. no-true (all-get (λ (r : Row). understood (r .verb)) table rows-understood r m) (rw v))
+
+unread : (w : List ℕ) (ws : List (List ℕ)) → asked (rowFor w) ws .verb ≡ NotUnderstood → asked (rowFor w) ws ≡ notUnderstood
+unfolding asked
+unread w ws v =
+    byTest (fits (rowFor w .forms) ws)
+    (λ t. rw (row-none w (rw t at v)) (no-row ws))
+    (λ t. rw t)
+
+pub one-reading : (s : List ℕ) → commandOf s .verb ≡ NotUnderstood → commandOf s ≡ notUnderstood
+unfolding commandOf
+one-reading s = go (leb (length s) lineBytes)
+  where
+    c : Command
+    c = asked (rowFor (upTo space s)) (behind space s)
+
+    go : (b : Bool) → pick b c notUnderstood .verb ≡ NotUnderstood → pick b c notUnderstood ≡ notUnderstood
+    go true v = unread (upTo space s) (behind space s) v
+    go false v = refl
 
 -- ---- `shape_of`: a letter that is given, and one that is none of the table's
 pub by-letter : (b x : ℕ) (r : Shape) → b ≡ x → r ≡ shapeOf (rowFor (x ∷ [])) → r ≡ shapeOf (rowFor (b ∷ []))
@@ -101,10 +144,10 @@ module _ (b : ℕ) where
   unlike : (l : List ℕ) → (b ≡ getD l 0 0 → ⊥) → sameBytes l (b ∷ []) ≡ false
   unlike l h = not-true _ (λ e. h (sym (ap (λ (m : List ℕ). getD m 0 0) (bytes-true l (b ∷ []) e))))
 
-  kept-none : (before : Type 0) (rs : List Row) → NoneOf before rs → keep (λ (r : Row). sameBytes (r .letter) (b ∷ [])) rs ≡ []
+  kept-none : (before : Type 0) (rs : List Row) → NoneOf before rs → keep (bears (b ∷ [])) rs ≡ []
   kept-none before [] h = unfold keep in refl
   kept-none before (r ∷ rs) h =
-      keep-cons-other (λ (r : Row). sameBytes (r .letter) (b ∷ [])) rs r (unlike (r .letter) (earlier (before × (b ≡ getD (r .letter) 0 0 → ⊥)) rs h .1))
+      keep-cons-other (bears (b ∷ [])) rs r (unlike (r .letter) (earlier (before × (b ≡ getD (r .letter) 0 0 → ⊥)) rs h .1))
       ∙ kept-none (before × (b ≡ getD (r .letter) 0 0 → ⊥)) rs h
 
   pub by-none : NoneOf Unit table → (r : Shape) → r ≡ shapeOf noRow → r ≡ shapeOf (rowFor (b ∷ []))

@@ -1,8 +1,8 @@
 -- Numbers behind spaces: the loops over them, and a whole line.
-use mathlib.Core.Bool.{Bool, false, true}
+use mathlib.Core.Bool.{true}
 use mathlib.Core.List.{List, [], _++_, _∷_, append-assoc, append-nil}
 use mathlib.Core.Path.{_∙_, _≡_, ap, refl, sym}
-use Prim.Native.Nat.{_*_, _+_, _<_, _^_, _≤_, suc, ℕ}
+use Prim.Native.Nat.{_*_, _+_, _<_, _^_, _≤_, ℕ}
 use native.Mathlib.Numerals.{add-one}
 use native.Mathlib.Nat.{lt-of-le-of-lt}
 use native.Mathlib.Omega.{arith}
@@ -18,7 +18,7 @@ use Rattle.lists.proofs.Arrays.{length-of}
 use Rattle.lists.proofs.Tests.{and-left, and-right}
 use Rattle.protocol.specs.Bounds.{largestNumber}
 use Rattle.rehearsal.specs.Line.{space}
-use Rattle.rehearsal.specs.Text.{Adds, Numbers, Puts, decimalOf, lineEnd, lineText, maxNumbers, numbersOf, restText, spaced}
+use Rattle.rehearsal.specs.Text.{Adds, Numbers, Puts, decimalOf, lineEnd, lineText, maxNumbers, mostDigits, numbersOf, restText, spaced}
 use Rattle.rehearsal.proofs.Buffers.{adds-length, adds-nothing, adds-on, adds-puts, puts-adds}
 use Rattle.rehearsal.proofs.Decimals.{digits-below, digits-most}
 use Rattle.rehearsal.proofs.Numbers.{the-row}
@@ -66,13 +66,13 @@ spaced-split ns i =
 module _ (x : Numbers) where
   pub record Spacing (size i : ℕ) : Type 0 where
     pub left : length (spaced (numbersOf x)) ≡ size + length (spaced (drop i (numbersOf x)))
-    pub small : size ≤ i * 21
+    pub small : size ≤ i * (mostDigits + 1)
 
   pub space-start : Spacing 0 0
   space-start = record { left = omega arith; small = omega arith }
 
   module _ (size i : ℕ) (r : Spacing size i) (count : ℕ) (e : count ≡ length (numbersOf x)) where
-    pub space-turn : i < count → (k : ℕ) → k ≡ length (decimalOf (getD (x .values) i 0)) → k ≤ 20 → Spacing (size + (k + 1)) (i + 1)
+    pub space-turn : i < count → (k : ℕ) → k ≡ length (decimalOf (getD (x .values) i 0)) → k ≤ mostDigits → Spacing (size + (k + 1)) (i + 1)
     space-turn h k t g =
         let l : i < length (numbersOf x) = rw e at h in
         let u = ap length (spaced-from (numbersOf x) i l) in
@@ -80,7 +80,7 @@ module _ (x : Numbers) where
         let y : k ≡ length (decimalOf (getD (numbersOf x) i 0)) = t ∙ rw (value-here x i l) in
         record { left = omega (arith, r .left); small = omega (arith, r .small) }
 
-    pub space-fits : i < count → count ≤ maxNumbers → (k : ℕ) → k ≤ 20 → Fits w64 (size + (k + 1))
+    pub space-fits : i < count → count ≤ maxNumbers → (k : ℕ) → k ≤ mostDigits → Fits w64 (size + (k + 1))
     space-fits h m k g = record { fits = omega (arith, r .small) }
 
     pub space-done : count ≤ i → size ≡ length (spaced (numbersOf x))
@@ -89,7 +89,7 @@ module _ (x : Numbers) where
         let u : length (spaced (drop i (numbersOf x))) ≡ 0 = rw (drop-of-length-le (numbersOf x) l) (unfold spaced in refl) in
         omega (arith, r .left)
 
-    pub space-most : count ≤ maxNumbers → i ≤ count → size ≤ 357
+    pub space-most : count ≤ maxNumbers → i ≤ count → size ≤ maxNumbers * (mostDigits + 1)
     space-most m h = omega (arith, r .small)
 
 pub ruleset spacing = (space-start, space-turn, space-fits, space-done, space-most)

@@ -2,19 +2,20 @@
 use mathlib.Core.Bool.{false, true}
 use mathlib.Core.List.{List, [], _++_, _∷_, append-assoc, append-nil}
 use mathlib.Core.Path.{_∙_, _≡_, ap, refl, sym}
-use Prim.Native.Nat.{_+_, _<_, _≤_, min, suc, ℕ}
+use Prim.Native.Nat.{_+_, _<_, _≤_, suc, ℕ}
 use native.Mathlib.Omega.{arith}
 use lib.Dec.{leb, ltb}
 use lib.ListN.{drop, getD, length, length-append, set, take}
-use lib.Seq.{length-take-le, set-out, take-all, take-append-le}
+use lib.Seq.{set-out, take-all, take-append-le}
 use borrow.Author.Tests.{le-leb, leb-false, leb-true, lt-leb, ltb-false, ltb-true}
-use Rattle.lists.specs.Lists.{pad, pick}
+use Rattle.lists.specs.Lists.{pad}
 use Rattle.lists.proofs.Cuts.{take-filled}
 use Rattle.lists.proofs.Fills.{length-pad, set-pad}
 use Rattle.lists.proofs.Tests.{byTest}
 use Rattle.names.specs.Names.{nameBytes, nameOf, zeroName}
 use Rattle.names.specs.declared.Name.{Name}
-use Rattle.rehearsal.specs.Line.{Spelling, nameAt, nameFrom, space, upTo, withByte}
+use Rattle.rehearsal.specs.Line.{space, upTo}
+use Rattle.rehearsal.specs.Places.{Spelling, nameAt, nameFrom, withByte}
 use Rattle.rehearsal.proofs.Words.{word-more, word-past, word-stop}
 
 -- ---- `with_byte`

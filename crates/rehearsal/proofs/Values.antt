@@ -2,7 +2,7 @@
 use mathlib.Core.Bool.{Bool, _&&_, and-false, false, true}
 use mathlib.Core.List.{List, [], _∷_}
 use mathlib.Core.Path.{_∙_, _≡_, refl, sym}
-use Prim.Native.Nat.{_*_, _+_, _-_, _<_, _≤_, suc, zero, ℕ}
+use Prim.Native.Nat.{_*_, _+_, _-_, _<_, _≤_, suc, ℕ}
 use native.Mathlib.Omega.{arith}
 use lib.Dec.{leb}
 use lib.ListN.{drop, getD, length}
@@ -10,14 +10,15 @@ use borrow.Author.Tests.{le-leb, leb-false, leb-true, lt-leb}
 use Rattle.lists.specs.Lists.{all, pick}
 use Rattle.lists.proofs.Tests.{and-left, and-right, byTest, no-true}
 use Rattle.protocol.specs.Bounds.{largestNumber}
-use Rattle.rehearsal.specs.Line.{None, Number, Value, digitNine, digitZero, digitsAt, isDecimal, isDigit, isNumber, numberAt, numberFrom, space, startsWell, upTo, valueAfter}
+use Rattle.rehearsal.specs.Line.{base, digitNine, digitZero, isDigit, isNumber, space, startsWell, upTo, valueAfter}
+use Rattle.rehearsal.specs.Places.{None, Number, Value, digitsAt, numberAt}
 use Rattle.rehearsal.proofs.Words.{word-more, word-past, word-stop}
 
 -- digits make a value no smaller
 grows : (v : ℕ) (w : List ℕ) → v ≤ valueAfter v w
 unfolding valueAfter
 grows v [] = omega arith
-grows v (b ∷ w) = let h = grows (v * 10 + (b - digitZero)) w in omega arith
+grows v (b ∷ w) = let h = grows (v * base + (b - digitZero)) w in omega arith
 
 -- digits w behind others of the value v, up to the place behind them; w starts at the place i
 unfoldable pub numberOn : ℕ → List ℕ → ℕ → Number
@@ -55,7 +56,7 @@ module _ (Q : Number) (s : List ℕ) where
 
         module _ (z : d ≡ true) where
           abbrev on : ℕ
-          on = v * 10 + (getD s at 0 - digitZero)
+          on = v * base + (getD s at 0 - digitZero)
 
           large : largestNumber < on → None ≡ Q
           unfolding numberOn all valueAfter
@@ -73,10 +74,10 @@ module _ (Q : Number) (s : List ℕ) where
               record { within = omega arith; small = g; left = r .left ∙ rw (word-more space s at h n, ← e, z, p) }
 
           module _ (x : ℕ) (t : x ≡ getD s at 0 - digitZero) where
-            pub value-large : largestNumber < v * 10 + x → None ≡ Q
+            pub value-large : largestNumber < v * base + x → None ≡ Q
             value-large g = large (rw t at g)
 
-            pub value-more : v * 10 + x ≤ largestNumber → Valuing (v * 10 + x) (at + 1)
+            pub value-more : v * base + x ≤ largestNumber → Valuing (v * base + x) (at + 1)
             value-more g = rw t (more (rw t at g))
 
 pub value-start : (s : List ℕ) (from : ℕ) → from ≤ length s → Valuing (digitsAt s from) s 0 from

@@ -1,8 +1,8 @@
 -- Words of a line by places: what stands from a place on, up to the next c, and behind it.
-use mathlib.Core.Bool.{Bool, _&&_, _||_, false, not, true}
-use mathlib.Core.List.{List, [], _++_, _∷_, append-assoc}
+use mathlib.Core.Bool.{Bool, false, true}
+use mathlib.Core.List.{List, [], _∷_}
 use mathlib.Core.Path.{_∙_, _≡_, ap, refl, sym}
-use Prim.Native.Nat.{_+_, _<_, _^_, _≤_, suc, zero, ℕ}
+use Prim.Native.Nat.{_+_, _<_, _^_, _≤_, suc, ℕ}
 use native.Mathlib.Numerals.{add-one}
 use native.Mathlib.Omega.{arith}
 use lib.Dec.{eqb, ltb}
@@ -11,7 +11,8 @@ use lib.Seq.{drop-cons, drop-drop, getD-drop}
 use borrow.Author.Tests.{eq-eqb, eqb-false, eqb-true, ltb-false, ltb-true, ne-eqb}
 use mir.Syntax.{w64}
 use mir.Val.{Fits}
-use Rattle.lists.specs.Lists.{isNone, one, pick}
+use Rattle.lists.specs.Lists.{isNone, pick}
+use Rattle.lists.proofs.Keep.{isNone-true}
 use Rattle.lists.proofs.Tests.{byTest, no-true}
 use Rattle.rehearsal.specs.Line.{behind, digitZero, startsWell, upTo}
 
@@ -54,11 +55,7 @@ module _ (c : ℕ) (s : List ℕ) (at : ℕ) where
 
   module _ (b : Bool) (e : b ≡ isNone (upTo c (drop at s))) where
     pub ended : b ≡ true → upTo c (drop at s) ≡ []
-    ended z = go (upTo c (drop at s)) (sym e ∙ z)
-      where
-        go : (l : List ℕ) → isNone l ≡ true → l ≡ []
-        go [] t = refl
-        go (x ∷ l) t = no-true t refl
+    ended z = isNone-true (upTo c (drop at s)) (sym e ∙ z)
 
     pub goes-on : b ≡ false → at < length s
     goes-on z = byTest (ltb at (length s)) (λ t. ltb-true _ _ t) (λ t. no-true (sym (ends-past (ltb-false _ _ t))) (sym e ∙ z))

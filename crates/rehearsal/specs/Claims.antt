@@ -7,7 +7,7 @@ use lib.Dec.{leb}
 use lib.ListN.{length}
 use Rattle.lists.specs.Lists.{all}
 use Rattle.protocol.specs.Bounds.{largestNumber}
-use Rattle.rehearsal.specs.Line.{isNumber, valueOf}
+use Rattle.rehearsal.specs.Line.{NotUnderstood, commandOf, isNumber, notUnderstood, valueOf}
 use Rattle.rehearsal.specs.Rehearsal.{rehearsal}
 use Rattle.rehearsal.specs.Text.{decimalOf, lineText}
 use Rattle.rehearsal.specs.Worked.{answers, readAnswers, readSchedule, schedule}
@@ -25,3 +25,7 @@ pub record ReadBack : Type 0 where
 -- a line of k numbers behind its own has at most 21 + 11 k bytes, its LF counted
 pub record ShortText : Type 0 where
   pub bound : (n : ℕ) (ns : List ℕ) → n < 2 ^ 64 → all (λ (n : ℕ). leb n largestNumber) ns ≡ true → length (lineText (n ∷ ns)) ≤ 21 + 11 * length ns
+
+-- a line that is not understood has one reading: no name, no numbers
+pub record OneReading : Type 0 where
+  pub alone : (s : List ℕ) → commandOf s .verb ≡ NotUnderstood → commandOf s ≡ notUnderstood

@@ -1,4 +1,5 @@
 pub mod Line
+pub mod Places
 pub mod Text
 pub mod Rehearsal
 pub mod Worked

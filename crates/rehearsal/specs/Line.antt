@@ -1,22 +1,18 @@
 -- What a line asks (document 01, 'The rehearsal program'): its words, the table of commands, and the command that the words make.
-use mathlib.Core.Bool.{Bool, true, false, not, _&&_, _||_}
-use mathlib.Core.List.{List, [], _∷_, _++_}
-use Prim.Native.Nat.{ℕ, _+_, _-_, _*_}
+use mathlib.Core.Bool.{Bool, _&&_, _||_, false, not, true}
+use mathlib.Core.List.{List, [], _++_, _∷_}
+use Prim.Native.Nat.{_*_, _+_, _-_, ℕ}
 use Prim.Native.String.{String}
 use lib.Dec.{eqb, leb}
-use lib.ListN.{length, drop, set}
-use Rattle.lists.specs.Lists.{pick, every, one, all, keep, pad, isNone, isSome}
-use Rattle.names.specs.Names.{nameBytes, nameOf, zeroName, sameBytes}
+use lib.ListN.{length}
+use Rattle.lists.specs.Lists.{all, isNone, isSome, keep, one, pad, pick}
+use Rattle.names.specs.Names.{nameOf, sameBytes, zeroName}
 use Rattle.names.specs.declared.Name.{Name}
 use Rattle.names.specs.Text.{bytes}
 use Rattle.protocol.specs.Bounds.{largestNumber}
 pub use Rattle.rehearsal.specs.declared.Verb.{Verb}
 pub use Rattle.rehearsal.specs.declared.Verb.the-variants.{Open, Link, Create, Unlink, Advance, Deliver, Cut, Crash, Recover, Settle, Totals, Square, NotUnderstood}
 pub use Rattle.rehearsal.specs.declared.Command.{Command}
-pub use Rattle.rehearsal.specs.declared.Number.{Number}
-pub use Rattle.rehearsal.specs.declared.Number.the-variants.{Value, None}
-pub use Rattle.rehearsal.specs.declared.Spelling.{Spelling}
-pub use Rattle.rehearsal.specs.declared.Shape.{Shape}
 
 -- "at most 64 bytes"
 abbrev pub lineBytes : ℕ
@@ -48,10 +44,13 @@ digitNine = 57
 abbrev pub isDigit : ℕ → Bool
 isDigit b = leb digitZero b && leb b digitNine
 
+abbrev pub base : ℕ
+base = 10
+
 -- the value of digits that stand behind others of the value v
 unfoldable pub valueAfter : ℕ → List ℕ → ℕ
 valueAfter v [] = v
-valueAfter v (b ∷ w) = valueAfter (v * 10 + (b - digitZero)) w
+valueAfter v (b ∷ w) = valueAfter (v * base + (b - digitZero)) w
 
 abbrev pub valueOf : List ℕ → ℕ
 valueOf w = valueAfter 0 w
@@ -119,8 +118,11 @@ abbrev pub firstRow : List Row → Row
 firstRow [] = noRow
 firstRow (r ∷ rs) = r
 
+abbrev pub bears : List ℕ → Row → Bool
+bears letter r = sameBytes (r .letter) letter
+
 unfoldable pub rowFor : List ℕ → Row
-rowFor letter = firstRow (keep (λ (r : Row). sameBytes (r .letter) letter) table)
+rowFor letter = firstRow (keep (bears letter) table)
 
 -- ---- the command that words make
 
@@ -172,39 +174,3 @@ asked r ws = pick (fits (r .forms) ws) (command (r .verb) (nameAmong zeroName (r
 -- a line's bytes, the LF that ends it not among them
 unfoldable pub commandOf : List ℕ → Command
 commandOf s = pick (leb (length s) lineBytes) (asked (rowFor (upTo space s)) (behind space s)) notUnderstood
-
--- ---- the same by places in a line, as code reads it
-
-abbrev pub numberFrom : (List ℕ → Bool) → List ℕ → ℕ → Number
-numberFrom test w from = pick (test w) (Value (valueOf w) (from + length w)) None
-
-abbrev pub numberAt : List ℕ → ℕ → Number
-numberAt s from = numberFrom isNumber (upTo space (drop from s)) from
-
-abbrev pub digitsAt : List ℕ → ℕ → Number
-digitsAt s from = numberFrom isDecimal (upTo space (drop from s)) from
-
-abbrev pub nameFrom : List ℕ → ℕ → Spelling
-nameFrom w from = record { name = nameOf w; next = from + length w }
-
-abbrev pub nameAt : List ℕ → ℕ → Spelling
-nameAt s from = nameFrom (upTo space (drop from s)) from
-
--- a name with one byte more; past the length that says "too long" it stays as it is
-abbrev pub withByte : Name → ℕ → Name
-withByte s b = pick (leb (s .len) nameBytes) (record { len = s .len + 1; bytes = set (s .bytes) (s .len) b }) s
-
-abbrev pub isLetter : List ℕ → Bool
-isLetter s = eqb (length (upTo space s)) 1
-
--- at which place a name stands; past the last, where there is none
-abbrev pub isName : Form → Bool
-isName aNumber = false
-isName aName = true
-
-unfoldable pub nameplace : List Form → ℕ
-nameplace [] = 0
-nameplace (f ∷ fs) = pick (isName f) 0 (1 + nameplace fs)
-
-abbrev pub shapeOf : Row → Shape
-shapeOf r = record { verb = r .verb; words = length (r .forms); name = nameplace (r .forms) }

@@ -8,7 +8,7 @@ use Rattle.protocol.specs.Answers.{Outcome, accepted}
 use Rattle.protocol.specs.Elements.{refusalNumber, replyNumber}
 use Rattle.protocol.specs.declared.Answer.{Answer}
 use Rattle.protocol.specs.declared.Refusal.the-variants.{Accepted, NotUnderstood as LineNotUnderstood}
-use Rattle.protocol.specs.Events.{Advancing, Crashing, Creating, Cutting, Delivering, Event, Linking, Opening, Recovering, Unlinking, apply}
+use Rattle.protocol.specs.Events.{Advancing, Crashing, Creating, Cutting, Delivering, Linking, Opening, Recovering, Unlinking, apply}
 use Rattle.protocol.specs.Settle.{Settled, settle, zeroTally}
 use Rattle.protocol.specs.Tables.{Model, fresh, partitionCount, queue, totals}
 use Rattle.rehearsal.specs.Line.{Advance, Command, Crash, Create, Cut, Deliver, Link, NotUnderstood, Open, Recover, Settle, Square, Totals, Unlink, Verb, behind, commandOf, upTo}

@@ -6,7 +6,7 @@ use Prim.Native.Nat.{_%_, _+_, _/_, suc, zero, ℕ}
 use lib.Dec.{leb, ltb}
 use lib.ListN.{drop, length, take}
 use Rattle.lists.specs.Lists.{pick}
-use Rattle.rehearsal.specs.Line.{digitZero, space}
+use Rattle.rehearsal.specs.Line.{base, digitZero, space}
 pub use Rattle.rehearsal.specs.declared.Numbers.{Numbers}
 
 abbrev pub lineEnd : ℕ
@@ -17,7 +17,7 @@ lineEnd = 10
 -- the digits of n, of which there are at most k
 unfoldable pub digitsWithin : ℕ → ℕ → List ℕ
 digitsWithin zero n = []
-digitsWithin (suc k) n = elim (ltb n 10) [ true ↦ (digitZero + n) ∷ [] | false ↦ digitsWithin k (n / 10) ++ (digitZero + n % 10) ∷ [] ]
+digitsWithin (suc k) n = elim (ltb n base) [ true ↦ (digitZero + n) ∷ [] | false ↦ digitsWithin k (n / base) ++ (digitZero + n % base) ∷ [] ]
 
 -- without leading zeros; a number has no more digits than its successor says
 unfoldable pub decimalOf : ℕ → List ℕ
@@ -36,6 +36,10 @@ restText ns = spaced ns ++ lineEnd ∷ []
 unfoldable pub lineText : List ℕ → List ℕ
 lineText [] = lineEnd ∷ []
 lineText (n ∷ ns) = decimalOf n ++ restText ns
+
+-- a number of the largest width, 18,446,744,073,709,551,615, has so many digits
+abbrev pub mostDigits : ℕ
+mostDigits = 20
 
 -- ---- numbers in an array with a count
 

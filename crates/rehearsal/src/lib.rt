@@ -1,6 +1,6 @@
 // The rehearsal (document 01, 'The rehearsal program'): what a line asks, and the text that answers it.
 // What is proved of the definitions in specs/ stands in the contract of `claims`, and the function does nothing.
-ghost use Rattle.rehearsal.specs.Claims.{Worked, ReadBack, ShortText};
+ghost use Rattle.rehearsal.specs.Claims.{Worked, OneReading, ReadBack, ShortText};
 use names::Name;
 
 pub mod line;
@@ -15,6 +15,8 @@ pub const WORDS: usize = 5;
 pub const SPACE: u8 = 32;
 
 pub const LF: u8 = 10;
+
+pub const BASE: u64 = 10;
 
 pub const DIGIT_ZERO: u8 = 48;
 
@@ -50,19 +52,19 @@ pub struct Command {
 }
 
 // What a word is, where it should be a number: its value, and the place behind it.
-pub enum Number {
+enum Number {
     Value(u32, usize),
     None,
 }
 
 // The name that a word spells, and the place behind the word.
-pub struct Spelling {
+struct Spelling {
     pub name: Name,
     pub next: usize,
 }
 
 // A row of the table of commands: so many words behind the letter, and which of them is the name (`words`, where none is).
-pub struct Shape {
+struct Shape {
     pub verb: Verb,
     pub words: usize,
     pub name: usize,
@@ -75,5 +77,5 @@ pub struct Numbers {
 }
 
 pub fn claims()
-    ensures { λ r. ⌜ Worked × ReadBack × ShortText ⌝ }
+    ensures { λ r. ⌜ Worked × OneReading × ReadBack × ShortText ⌝ }
 {}

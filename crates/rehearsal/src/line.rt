@@ -5,7 +5,9 @@ ghost use mathlib.Core.Path.{_≡_};
 ghost use Prim.Native.Nat.{_-_, _<_, _≤_};
 ghost use lib.ListN.{length, drop};
 ghost use Rattle.lists.specs.Lists.{isNone};
-ghost use Rattle.rehearsal.specs.Line.{space, upTo, behind, digitNine, digitZero, isDigit, startsWell, digitsAt, numberAt, nameAt, withByte, rowFor, shapeOf, asked, notUnderstood, isLetter, commandOf};
+ghost use Rattle.rehearsal.specs.Line.{base, space, upTo, behind, digitNine, digitZero, isDigit, startsWell, rowFor, asked, notUnderstood, commandOf};
+ghost use Rattle.rehearsal.specs.Places.{digitsAt, numberAt, nameAt, withByte, shapeOf, hasLetter};
+use crate::BASE;
 use crate::Command;
 use crate::DIGIT_NINE;
 use crate::DIGIT_ZERO;
@@ -38,7 +40,7 @@ fn is_digit(b: u8) -> bool
 
 fn digit(b: u8) -> u64
     requires { ⌜ (digitZero ≤ b) × (b ≤ digitNine) ⌝ }
-    ensures { λ r. ⌜ (r ≡ b - digitZero) × (r < 10) ⌝ }
+    ensures { λ r. ⌜ (r ≡ b - digitZero) × (r < base) ⌝ }
 {
     (b - DIGIT_ZERO) as u64
 }
@@ -70,7 +72,7 @@ fn digits(line: &[u8], from: usize) -> Number
         if is_digit(b) {} else {
             return Number::None;
         }
-        let next = value * 10 + digit(b);
+        let next = value * BASE + digit(b);
         if LARGEST_NUMBER < next {
             return Number::None;
         }
@@ -150,7 +152,7 @@ fn shape_of(letter: u8) -> Shape
     }
 }
 
-pub fn not_understood() -> Command
+fn not_understood() -> Command
     ensures { λ r. ⌜ r ≡ notUnderstood ⌝ }
 {
     Command {
@@ -162,7 +164,7 @@ pub fn not_understood() -> Command
 
 // The words behind the letter, one after the other. A word ends at a space or at the end of the line.
 fn arguments(line: &[u8], shape: Shape) -> Command
-    requires { ⌜ isLetter (now line) ≡ true ⌝ }
+    requires { ⌜ hasLetter (now line) ≡ true ⌝ }
     requires { ⌜ shape ≡ shapeOf (rowFor (upTo space (now line))) ⌝ }
     ensures { λ r. ⌜ r ≡ asked (rowFor (upTo space (now (line .entry)))) (behind space (now (line .entry))) ⌝ }
 {
@@ -202,8 +204,8 @@ fn arguments(line: &[u8], shape: Shape) -> Command
     }
 }
 
-fn is_letter(line: &[u8]) -> bool
-    ensures { λ r. ⌜ r ≡ isLetter (now (line .entry)) ⌝ }
+fn has_letter(line: &[u8]) -> bool
+    ensures { λ r. ⌜ r ≡ hasLetter (now (line .entry)) ⌝ }
 {
     if ends(line, 0) {
         return false;
@@ -218,7 +220,7 @@ pub fn command_of(line: &[u8]) -> Command
     if LINE_BYTES < line.len() {
         return not_understood();
     }
-    if is_letter(line) {} else {
+    if has_letter(line) {} else {
         return not_understood();
     }
     let shape = shape_of(line[0]);

@@ -1,11 +1,12 @@
 // Writes a line of numbers into a lent buffer: decimals without leading zeros, one space between two, and LF.
 ghost use mathlib.Core.List.{[], _∷_};
 ghost use mathlib.Core.Path.{_≡_};
-ghost use Prim.Native.Nat.{_+_, _-_, _<_, _≤_};
+ghost use Prim.Native.Nat.{_*_, _+_, _-_, _<_, _≤_};
 ghost use lib.Dec.{leb};
 ghost use lib.ListN.{length};
-ghost use Rattle.rehearsal.specs.Line.{digitZero, space};
-ghost use Rattle.rehearsal.specs.Text.{decimalOf, spaced, restText, lineText, numbersOf, maxNumbers, written, Puts, Adds};
+ghost use Rattle.rehearsal.specs.Line.{base, digitZero, space};
+ghost use Rattle.rehearsal.specs.Text.{decimalOf, spaced, restText, lineText, numbersOf, maxNumbers, mostDigits, written, Puts, Adds};
+use crate::BASE;
 use crate::DIGIT_ZERO;
 use crate::LF;
 use crate::NUMBERS;
@@ -13,19 +14,19 @@ use crate::Numbers;
 use crate::SPACE;
 
 fn digit_count(n: u64) -> usize
-    ensures { λ r. ⌜ (r ≡ length (decimalOf n)) × (r ≤ 20) ⌝ }
+    ensures { λ r. ⌜ (r ≡ length (decimalOf n)) × (r ≤ mostDigits) ⌝ }
 {
     let mut k: usize = 1;
     let mut rest = n;
-    while 9 < rest {
-        rest /= 10;
+    while BASE <= rest {
+        rest /= BASE;
         k += 1;
     }
     k
 }
 
 fn digit_of(n: u64) -> u8
-    requires { ⌜ n < 10 ⌝ }
+    requires { ⌜ n < base ⌝ }
     ensures { λ r. ⌜ r ≡ digitZero + n ⌝ }
 {
     DIGIT_ZERO + n as u8
@@ -38,10 +39,10 @@ fn put_digits(out: &mut [u8], end: usize, n: u64)
 {
     let mut at = end;
     let mut rest = n;
-    while 9 < rest {
+    while BASE <= rest {
         at -= 1;
-        out[at] = digit_of(rest % 10);
-        rest /= 10;
+        out[at] = digit_of(rest % BASE);
+        rest /= BASE;
     }
     at -= 1;
     out[at] = digit_of(rest);
@@ -97,7 +98,7 @@ fn counted(x: Numbers) -> usize
 }
 
 fn spaced_size(x: Numbers) -> usize
-    ensures { λ r. ⌜ (r ≡ length (spaced (numbersOf x))) × (r ≤ 357) ⌝ }
+    ensures { λ r. ⌜ (r ≡ length (spaced (numbersOf x))) × (r ≤ maxNumbers * (mostDigits + 1)) ⌝ }
 {
     let count = counted(x);
     let mut size: usize = 0;

@@ -1,4 +1,5 @@
 use Rattle.rehearsal.proofs.Examples.{worked, worked-readings}
+use Rattle.rehearsal.proofs.Rows.{one-reading}
 use Rattle.rehearsal.proofs.Returns.{number-back, value-back}
 use Rattle.rehearsal.proofs.Spaces.{line-most}
 use Rattle.rehearsal.proofs.claims.Statement.{statement}
@@ -6,7 +7,7 @@ use Rattle.rehearsal.proofs.claims.Tie as tie
 
 returns : tie.Need-returns
 returns c =
-    (record { document = worked; readings = worked-readings }, record { number = number-back; value = value-back }, record { bound = line-most })
+    (record { document = worked; readings = worked-readings }, record { alone = one-reading }, record { number = number-back; value = value-back }, record { bound = line-most })
 
 pub claims-spec : {M : Type 1} → statement M
 claims-spec = tie.close (tie.spec returns)

@@ -9,8 +9,8 @@ not-understood-requires c κs = search (lines, needs)
 returns : tie.Need-returns
 returns c = search (lines, needs)
 
-is-letter-requires : tie.Need-is-letter-requires
-is-letter-requires c κs = search (lines, needs)
+has-letter-requires : tie.Need-has-letter-requires
+has-letter-requires c κs = search (lines, needs)
 
 not-understood-requires-2 : tie.Need-not-understood-requires-2
 not-understood-requires-2 c κs = search (lines, needs)
@@ -36,7 +36,7 @@ command-of-spec =
     (tie.spec
     not-understood-requires
     returns
-    is-letter-requires
+    has-letter-requires
     not-understood-requires-2
     returns-2
     shared-slice-read-shape-of

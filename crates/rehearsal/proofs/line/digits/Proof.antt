@@ -1,5 +1,5 @@
 use Rattle.rehearsal.proofs.Values.{Valuing, valuing}
-use Rattle.rehearsal.specs.Line.{digitsAt}
+use Rattle.rehearsal.specs.Places.{digitsAt}
 use lib.ListN.{length}
 use Prim.Native.Nat.{_-_}
 use borrow.Author.Needs.{needs}

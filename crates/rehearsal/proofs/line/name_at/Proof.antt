@@ -1,5 +1,5 @@
 use Rattle.rehearsal.proofs.Spellings.{Naming, naming}
-use Rattle.rehearsal.specs.Line.{nameAt}
+use Rattle.rehearsal.specs.Places.{nameAt}
 use lib.ListN.{length}
 use Prim.Native.Nat.{_-_}
 use borrow.Author.Needs.{needs}

@@ -1,4 +1,4 @@
-use Rattle.rehearsal.proofs.Spaces.{Putting, puttings, values-length}
+use Rattle.rehearsal.proofs.Spaces.{Putting, puttings}
 use Prim.Native.Nat.{_-_, _≤_}
 use borrow.Author.Needs.{needs}
 use Rattle.rehearsal.proofs.text.put_spaced.Statement.{statement}

@@ -1,4 +1,4 @@
-use Rattle.rehearsal.proofs.Spaces.{Spacing, spacing, values-length}
+use Rattle.rehearsal.proofs.Spaces.{Spacing, spacing}
 use Prim.Native.Nat.{_-_, _≤_}
 use borrow.Author.Needs.{needs}
 use Rattle.rehearsal.proofs.text.spaced_size.Statement.{statement}
