@@ -8,3 +8,4 @@ pub mod Buffers
 pub mod Spaces
 pub mod Examples
 pub mod Returns
+pub mod Squares

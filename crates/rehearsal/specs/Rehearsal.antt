@@ -3,7 +3,7 @@ use mathlib.Core.Bool.{Bool, false, true}
 use mathlib.Core.List.{List, [], _++_, _∷_}
 use Prim.Native.Nat.{suc, ℕ}
 use lib.ListN.{getD, length}
-use Rattle.lists.specs.Lists.{each, isSome, one, pick}
+use Rattle.lists.specs.Lists.{isSome, one, pick}
 use Rattle.protocol.specs.Answers.{Outcome, accepted}
 use Rattle.protocol.specs.Elements.{refusalNumber, replyNumber}
 use Rattle.protocol.specs.declared.Answer.{Answer}
@@ -12,7 +12,7 @@ use Rattle.protocol.specs.Events.{Advancing, Crashing, Creating, Cutting, Deliv
 use Rattle.protocol.specs.Settle.{Settled, settle, zeroTally}
 use Rattle.protocol.specs.Tables.{Model, fresh, partitionCount, queue, totals}
 use Rattle.rehearsal.specs.Line.{Advance, Command, Crash, Create, Cut, Deliver, Link, NotUnderstood, Open, Recover, Settle, Square, Totals, Unlink, Verb, behind, commandOf, upTo}
-use Rattle.rehearsal.specs.Text.{lineEnd, lineText}
+use Rattle.rehearsal.specs.Text.{lineEnd, lineText, squareOf}
 
 -- ---- what a command answers, in the document's numbers
 
@@ -49,8 +49,8 @@ totalNumbers m =
     refusalNumber Accepted ∷ totals m .entries ∷ totals m .backpointers ∷ totals m .records ∷ totals m .messages ∷ []
 
 -- "the queue lengths as a square, one row for each sender, count times count numbers, row after row"
-unfoldable pub square : Model → List ℕ
-square m = each (partitionCount m) (λ s. each (partitionCount m) (λ r. length (queue m s r) ∷ []))
+abbrev pub square : Model → List ℕ
+square m = squareOf (partitionCount m) (λ s r. length (queue m s r))
 
 -- the number of the word at this place
 abbrev pub argument : Command → ℕ → ℕ

@@ -3,6 +3,7 @@
 ghost use Rattle.rehearsal.specs.Claims.{Worked, OneReading, ReadBack, ShortText};
 use names::Name;
 
+pub mod answer;
 pub mod line;
 pub mod text;
 
@@ -24,6 +25,9 @@ pub const DIGIT_NINE: u8 = 57;
 
 // So many numbers a line of the output has at most behind its own: the refusal and sixteen queue lengths.
 pub const NUMBERS: usize = 17;
+
+// The side of the square of queue lengths.
+pub const SIDE: usize = 4;
 
 // The largest number of a line.
 pub const LARGEST_NUMBER: u64 = 4294967295;
