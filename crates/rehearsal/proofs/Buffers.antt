@@ -124,3 +124,11 @@ module _ (n : ℕ) (out : List ℕ) (at : ℕ) (h : at + length (space ∷ decim
       adds-on (space ∷ []) out at a p (decimalOf n) b q (omega arith) r (puts-adds (decimalOf n) a p b q (omega (arith, r .place)) s)
 
 pub ruleset nexts = (next-room, next-put)
+
+-- ---- one outcome
+module _ (t before : List ℕ) (at : ℕ) (a b : List ℕ) (p q : ℕ) (r : Puts t before at a p) (s : Puts t before at b q) where
+  pub one-text : a ≡ b
+  one-text = r .bytes ∙ sym (s .bytes)
+
+  pub one-place : p ≡ q
+  one-place = r .place ∙ sym (s .place)

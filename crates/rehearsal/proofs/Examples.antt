@@ -4,7 +4,8 @@ use Rattle.lists.specs.Lists.{pad}
 use Rattle.protocol.proofs.Examples.{opened}
 use Rattle.rehearsal.specs.Line.{asked, behind, commandOf, fits, isNumber, nameAmong, notUnderstood, upTo, valueAfter, values}
 use Rattle.rehearsal.specs.Rehearsal.{answeredFrom, linesFrom, rehearsal, respond, respondTo}
-use Rattle.rehearsal.specs.Text.{decimalOf, digitsWithin, lineText, restText, row, rows, spaced}
+use Rattle.rehearsal.specs.Answers.{row, rows}
+use Rattle.rehearsal.specs.Text.{decimalOf, digitsWithin, lineText, restText, spaced}
 use Rattle.rehearsal.specs.Worked.{answers, readAnswers, readSchedule, schedule}
 use Rattle.rehearsal.proofs.Rows.{tabled}
 

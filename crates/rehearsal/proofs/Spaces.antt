@@ -18,7 +18,8 @@ use Rattle.lists.proofs.Arrays.{length-of}
 use Rattle.lists.proofs.Tests.{and-left, and-right}
 use Rattle.protocol.specs.Bounds.{largestNumber}
 use Rattle.rehearsal.specs.Line.{space}
-use Rattle.rehearsal.specs.Text.{Adds, Numbers, Puts, decimalOf, lineEnd, lineText, maxNumbers, mostDigits, numbersOf, restText, spaced}
+use Rattle.rehearsal.specs.Answers.{Numbers, maxNumbers, numbersOf}
+use Rattle.rehearsal.specs.Text.{Adds, Puts, decimalOf, lineEnd, lineText, mostDigits, restText, spaced}
 use Rattle.rehearsal.proofs.Buffers.{adds-length, adds-nothing, adds-on, adds-puts, puts-adds}
 use Rattle.rehearsal.proofs.Decimals.{digits-below, digits-most}
 use Rattle.rehearsal.proofs.Numbers.{the-row}

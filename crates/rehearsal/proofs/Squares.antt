@@ -9,7 +9,7 @@ use lib.ListN.{getD, length, length-append}
 use Rattle.lists.specs.Lists.{each}
 use Rattle.lists.proofs.Fills.{set-pad, take-pad}
 use Rattle.protocol.specs.Bounds.{maxPartitions}
-use Rattle.rehearsal.specs.Text.{Numbers, maxNumbers, numbersOf, pushed, row, rows, squareOf, stored}
+use Rattle.rehearsal.specs.Answers.{Numbers, maxNumbers, numbersOf, pushed, row, rows, squareOf, stored}
 
 -- ---- what is stored
 pub stored-numbers : (ns : List ℕ) → numbersOf (stored ns) ≡ ns

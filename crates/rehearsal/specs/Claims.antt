@@ -9,7 +9,7 @@ use Rattle.lists.specs.Lists.{all}
 use Rattle.protocol.specs.Bounds.{largestNumber}
 use Rattle.rehearsal.specs.Line.{NotUnderstood, commandOf, isNumber, notUnderstood, valueOf}
 use Rattle.rehearsal.specs.Rehearsal.{rehearsal}
-use Rattle.rehearsal.specs.Text.{decimalOf, lineText}
+use Rattle.rehearsal.specs.Text.{Puts, decimalOf, lineText}
 use Rattle.rehearsal.specs.Worked.{answers, readAnswers, readSchedule, schedule}
 
 -- document 01's worked rehearsal, byte for byte; and one that shows how its open points are read
@@ -29,3 +29,8 @@ pub record ShortText : Type 0 where
 -- a line that is not understood has one reading: no name, no numbers
 pub record OneReading : Type 0 where
   pub alone : (s : List ℕ) → commandOf s .verb ≡ NotUnderstood → commandOf s ≡ notUnderstood
+
+-- no two outcomes satisfy what a text put into a buffer is said to be
+pub record OneText : Type 0 where
+  pub bytes : (t before : List ℕ) (at : ℕ) (a b : List ℕ) (p q : ℕ) → Puts t before at a p → Puts t before at b q → a ≡ b
+  pub place : (t before : List ℕ) (at : ℕ) (a b : List ℕ) (p q : ℕ) → Puts t before at a p → Puts t before at b q → p ≡ q

@@ -12,7 +12,8 @@ use Rattle.protocol.specs.Events.{Advancing, Crashing, Creating, Cutting, Deliv
 use Rattle.protocol.specs.Settle.{Settled, settle, zeroTally}
 use Rattle.protocol.specs.Tables.{Model, fresh, partitionCount, queue, totals}
 use Rattle.rehearsal.specs.Line.{Advance, Command, Crash, Create, Cut, Deliver, Link, NotUnderstood, Open, Recover, Settle, Square, Totals, Unlink, Verb, behind, commandOf, upTo}
-use Rattle.rehearsal.specs.Text.{lineEnd, lineText, squareOf}
+use Rattle.rehearsal.specs.Answers.{squareOf}
+use Rattle.rehearsal.specs.Text.{lineEnd, lineText}
 
 -- ---- what a command answers, in the document's numbers
 

@@ -4,7 +4,7 @@ ghost use mathlib.Core.Path.{_≡_};
 ghost use Prim.Native.Nat.{_+_, _<_, _≤_, min};
 ghost use lib.ListN.{getD, length};
 ghost use Rattle.protocol.specs.Bounds.{maxPartitions};
-ghost use Rattle.rehearsal.specs.Text.{maxNumbers, numbersOf, pushed, row, squareOf, stored};
+ghost use Rattle.rehearsal.specs.Answers.{maxNumbers, numbersOf, pushed, row, squareOf, stored};
 use crate::NUMBERS;
 use crate::Numbers;
 use crate::SIDE;

@@ -1,6 +1,6 @@
 // The rehearsal (document 01, 'The rehearsal program'): what a line asks, and the text that answers it.
 // What is proved of the definitions in specs/ stands in the contract of `claims`, and the function does nothing.
-ghost use Rattle.rehearsal.specs.Claims.{Worked, OneReading, ReadBack, ShortText};
+ghost use Rattle.rehearsal.specs.Claims.{Worked, OneReading, ReadBack, ShortText, OneText};
 use names::Name;
 
 pub mod answer;
@@ -81,5 +81,5 @@ pub struct Numbers {
 }
 
 pub fn claims()
-    ensures { λ r. ⌜ Worked × OneReading × ReadBack × ShortText ⌝ }
+    ensures { λ r. ⌜ Worked × OneReading × ReadBack × ShortText × OneText ⌝ }
 {}

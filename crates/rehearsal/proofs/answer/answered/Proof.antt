@@ -1,6 +1,6 @@
 use mathlib.Core.Path.{refl}
 use Rattle.lists.specs.Lists.{pad}
-use Rattle.rehearsal.specs.Text.{stored}
+use Rattle.rehearsal.specs.Answers.{stored}
 use borrow.Author.Needs.{needs}
 use Rattle.rehearsal.proofs.answer.answered.Statement.{statement}
 use Rattle.rehearsal.proofs.answer.answered.Tie as tie
