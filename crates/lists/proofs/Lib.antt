@@ -19,3 +19,4 @@ pub mod Images
 pub mod Alls
 pub mod Repeats
 pub mod Backs
+pub mod Cuts

@@ -1,0 +1,7 @@
+pub mod Line
+pub mod Places
+pub mod Text
+pub mod Answers
+pub mod Rehearsal
+pub mod Worked
+pub mod Claims
