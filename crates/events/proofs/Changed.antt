@@ -1,23 +1,26 @@
 -- A store in tables that are the stored form of a model is the stored form of that model's change.
-use mathlib.Core.List.{List, [], _++_, _∷_}
+use mathlib.Core.List.{List, [], _++_, _∷_, map}
 use mathlib.Core.Path.{_∙_, _≡_, ap, refl, sym}
-use Prim.Native.Nat.{_*_, _+_, _<_, _≤_, ℕ}
-use lib.ListN.{length, length-set}
+use Prim.Native.Nat.{_*_, _+_, _<_, _≤_, suc, zero, ℕ}
+use native.Mathlib.Omega.{arith}
+use lib.ListN.{List·getD-map, getD, length, length-map, length-set}
+use Rattle.lists.specs.Lists.{removeAt}
 use Rattle.protocol.specs.Bounds.{maxBackpointers, maxEntries, maxMessages, maxPartitions, maxRecords}
+use Rattle.tables.specs.Slots.{zeroBackpointer, zeroEntry, zeroMessage, zeroRecord}
+use Rattle.tables.specs.View.{Sized, Stored, backpointersOf, entriesOf, messagesOf, noQueue, pack, packBackpointers, packEntries, packQueue, packRecords, queueAt, recordsOf, view}
+use Rattle.lists.proofs.Fills.{take-pad}
+use Rattle.tables.proofs.Packs.{view-pack}
+use Rattle.tables.proofs.Views.{queue-view}
 use Rattle.protocol.specs.Tables.{Model, changeBackpointers, changeEntries, changeRecords, partition, queue, send, setPartition, setQueue, withBackpointers, withEntries, withRecords, Partition as Part}
 use Rattle.protocol.specs.declared.Backpointer.{Backpointer}
 use Rattle.protocol.specs.declared.Entry.{Entry}
 use Rattle.protocol.specs.declared.Message.{Message}
 use Rattle.protocol.specs.declared.Record.{Record}
-use Rattle.tables.specs.Slots.{zeroBackpointer, zeroEntry, zeroMessage, zeroRecord}
-use Rattle.tables.specs.View.{Stored, backpointersOf, entriesOf, messagesOf, pack, packBackpointers, packEntries, packQueue, packRecords, recordsOf, view}
 use Rattle.tables.specs.declared.Backpointers.{Backpointers}
 use Rattle.tables.specs.declared.Entries.{Entries}
 use Rattle.tables.specs.declared.Queue.{Queue}
 use Rattle.tables.specs.declared.Records.{Records}
 use Rattle.tables.specs.declared.Tables.{Tables}
-use Rattle.lists.proofs.Fills.{take-pad}
-use Rattle.tables.proofs.Packs.{view-pack}
 
 -- what is in its stored form
 pub packed-entries : (l : Entries) (k : List Entry) → l ≡ packEntries k → packEntries (entriesOf l) ≡ l
@@ -78,3 +81,46 @@ module _ (m : Model) (p : ℕ) (u w : Tables) (e : u ≡ pack m) where
   message-sent r x q h g =
       g ∙ ap (λ (y : Model). pack (setQueue y p r (messagesOf q))) meant
       ∙ ap (λ (k : List Message). pack (setQueue m p r k)) (ap messagesOf h ∙ take-pad maxMessages zeroMessage _)
+
+-- ---- the queue from a to b, which was read as y
+
+-- a place of an image, whatever stands past the end
+map-at : {A B : Type 0} (f : A → B) (l : List A) (i : ℕ) (d : B) (e : A) → i < length l → getD (map f l) i d ≡ f (getD l i e)
+map-at f [] i d e h = absurd (omega arith)
+map-at f (x ∷ l) zero d e h = refl
+map-at f (x ∷ l) (suc i) d e h = map-at f l i d e (omega arith)
+
+module _ (t : Tables) (z : Sized t) (a b : ℕ) (s : Stored t a) (r : Stored t b) (y : Queue) (v : y ≡ queueAt t (a * maxPartitions + b)) where
+  held : messagesOf y ≡ queue (view t) a b
+  held = ap messagesOf v ∙ sym (queue-view t a b)
+
+  pub queue-stored : packQueue (messagesOf y) ≡ y
+  unfolding pack view
+  queue-stored =
+      let i : ℕ = a * maxPartitions + b in
+      let k : i < length (t .queues) = let h = s .inside in let g = s .count in let f = r .inside in rw (z .queues) (omega arith) in
+      let q : packQueue (messagesOf (queueAt t i)) ≡ getD (map packQueue (map messagesOf (t .queues))) i noQueue =
+      sym (map-at packQueue (map messagesOf (t .queues)) i noQueue [] (rw (length-map (t .queues) messagesOf) k) ∙ ap packQueue (List·getD-map messagesOf (t .queues) i noQueue))
+      in
+      rw v (q ∙ ap (λ (u : Tables). getD (u .queues) i noQueue) (s .packed))
+
+  pub queue-few : length (queue (view t) a b) < maxMessages → y .count < maxMessages
+  queue-few h = let e : y .count ≡ length (messagesOf y) = ap (λ (q : Queue). q .count) (sym queue-stored) in let g : length (messagesOf y) < maxMessages = rw held h in omega (arith, e)
+
+  pub queue-sent : (x : Message) (k : Queue) (u : Tables) → k ≡ packQueue (messagesOf y ++ x ∷ []) → u ≡ pack (setQueue (view t) a b (messagesOf k)) → u ≡ pack (send (view t) a b x)
+  queue-sent x k u hk hu = message-sent (view t) a t u (sym (s .packed)) b x k (hk ∙ ap (λ (j : List Message). packQueue (j ++ x ∷ [])) held) hu
+
+  pub queue-rest : (k : Queue) (u : Tables) → k ≡ packQueue (removeAt 0 (messagesOf y)) → u ≡ pack (setQueue (view t) a b (messagesOf k)) → u ≡ pack (setQueue (view t) a b (removeAt 0 (queue (view t) a b)))
+  queue-rest k u hk hu =
+      hu ∙ ap (λ (j : List Message). pack (setQueue (view t) a b j)) (ap messagesOf hk ∙ take-pad maxMessages zeroMessage _ ∙ ap (removeAt 0) held)
+
+  pub queue-some : 0 < queueAt t (a * maxPartitions + b) .count → 0 < y .count
+  queue-some h = rw v h
+
+  pub queue-most : queueAt t (a * maxPartitions + b) .count ≤ maxMessages → y .count ≤ maxMessages
+  queue-most h = rw v h
+
+pub stored-below : (t : Tables) (a : ℕ) → Stored t a → a < maxPartitions
+stored-below t a s = let h = s .inside in let k = s .count in omega arith
+
+pub ruleset queues = (queue-stored, queue-few, queue-sent, queue-rest, queue-some, queue-most, stored-below)

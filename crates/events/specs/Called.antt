@@ -4,17 +4,20 @@ use mathlib.Core.List.{[], _∷_}
 use mathlib.Core.Path.{_≡_}
 use Prim.Native.Nat.{ℕ, _<_}
 use lib.Dec.{ltb}
+use lib.ListN.{getD, length}
 use Rattle.lists.specs.Lists.{pick, every}
 use Rattle.protocol.specs.declared.Refusal.{Refusal}
 use Rattle.protocol.specs.declared.Refusal.the-variants.{Accepted, OutOfOrder}
 use Rattle.protocol.specs.declared.Reply.{Reply}
 use Rattle.protocol.specs.declared.Reply.the-variants.{None}
-use Rattle.protocol.specs.Tables.{isDirectory, isObject, isPartition}
+use Rattle.protocol.specs.Tables.{isDirectory, isObject, isPartition, queue}
 use Rattle.protocol.specs.Order.{inOrder, inRange}
 use Rattle.protocol.specs.Answers.{Outcome, refuse, accepted}
 use Rattle.protocol.specs.Events.{Event, tests, apply}
 use Rattle.tables.specs.declared.Tables.{Tables}
-use Rattle.protocol.specs.Bounds.{largestNumber, maxPartitions, maxRecords}
+use Rattle.protocol.specs.Bounds.{largestNumber, maxMessages, maxPartitions, maxRecords}
+use Rattle.protocol.specs.declared.Record.{Record}
+use Rattle.tables.specs.Slots.{noRecord}
 use Rattle.tables.specs.View.{view, pack, shaped, partitionAt}
 pub use Rattle.events.specs.declared.Answered.{Answered}
 
@@ -67,3 +70,17 @@ pub record PlacedIn (t : Tables) (p d : ℕ) : Type 0 where
   pub four : p < maxPartitions
   pub directory : d < 256
   pub test : (isPartition (view t) p && isDirectory d) ≡ true
+
+-- the record r is open at place i of partition p
+pub record OpenAt (t : Tables) (p i : ℕ) (r : Record) : Type 0 where
+  pub partition : p < t .count
+  pub four : p < maxPartitions
+  pub place : i < partitionAt t p .records .count
+  pub read : r ≡ getD (partitionAt t p .records .items) i noRecord
+
+-- its object is on partition q, to which there is room for a request
+pub record SendsTo (t : Tables) (p : ℕ) (r : Record) (q : ℕ) : Type 0 where
+  pub owner : q ≡ r .partition
+  pub there : q < t .count
+  pub four : q < maxPartitions
+  pub room : length (queue (view t) p q) < maxMessages

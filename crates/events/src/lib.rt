@@ -2,14 +2,20 @@
 // definition does, and gives back the tables as they were where it refuses.
 ghost use mathlib.Core.Path.{_≡_};
 ghost use Prim.Native.Nat.{_<_};
-ghost use Rattle.events.specs.Called.{refusedWith, acceptedWith};
+ghost use lib.Dec.{ltb};
+ghost use Rattle.protocol.specs.Events.{Advancing, Creating, Linking, Unlinking};
+ghost use Rattle.events.specs.Called.{acceptedWith, called, refusedWith};
+use names::Name;
 use protocol::Answer;
+use protocol::Kind;
 use protocol::Refusal;
 use protocol::Reply;
 use tables::Tables;
 
 pub mod ask;
 pub mod next;
+pub mod queues;
+pub mod step;
 
 // What a call answers, and the tables after it.
 pub struct Answered {
@@ -23,6 +29,13 @@ pub fn small(x: u32) -> u8
     ensures { λ r. ⌜ r ≡ x ⌝ }
 {
     x as u8
+}
+
+// Whether partition p is one of n.
+pub fn is_there(n: usize, p: u32) -> bool
+    ensures { λ r. ⌜ r ≡ ltb p n ⌝ }
+{
+    (p as usize) < n
 }
 
 pub fn refused(t: Tables, why: Refusal) -> Answered
@@ -53,4 +66,36 @@ pub fn accepted(t: Tables, number: u32, reply: Reply) -> Answered
         answer: answer,
         tables: t,
     }
+}
+
+// ---- the events
+
+pub fn link(t: Tables, p: u32, d: u32, name: Name, q: u32, o: u32) -> Answered
+    ensures { λ r. ⌜ r ≡ called t (Linking p d name q o) ⌝ }
+{
+    ask::ask(Kind::Link, t, p, d, name, q, o)
+}
+
+pub fn create(t: Tables, p: u32, d: u32, name: Name, q: u32, o: u32) -> Answered
+    ensures { λ r. ⌜ r ≡ called t (Creating p d name q o) ⌝ }
+{
+    ask::ask(Kind::Create, t, p, d, name, q, o)
+}
+
+pub fn unlink(t: Tables, p: u32, d: u32, name: Name) -> Answered
+    ensures { λ r. ⌜ r ≡ called t (Unlinking p d name) ⌝ }
+{
+    if order::in_order(t) {} else {
+        return refused(t, Refusal::OutOfOrder);
+    }
+    ask::unlink_in_order(t, p, d, name)
+}
+
+pub fn advance(t: Tables, p: u32, number: u32) -> Answered
+    ensures { λ r. ⌜ r ≡ called t (Advancing p number) ⌝ }
+{
+    if order::in_order(t) {} else {
+        return refused(t, Refusal::OutOfOrder);
+    }
+    step::advance_in_order(t, p, number)
 }

@@ -12,7 +12,7 @@ use Rattle.lists.specs.Lists.{isNone, keep}
 use Rattle.protocol.specs.Answers.{Outcome, accepted, check}
 use Rattle.protocol.specs.Ask.{ask, askTables, unlink, unlinkFound}
 use Rattle.protocol.specs.Deliver.{isExactly}
-use Rattle.protocol.specs.Elements.{Backpointer, BadName, Down, Entry, Kind, LogFull, Message, Name, NameExists, NumbersSpent, OutOfRange, Record, RecordOpen, Refusal, Request, Sent, adds, isAccepted, isRequest, isSent}
+use Rattle.protocol.specs.Elements.{Backpointer, BadName, Down, Entry, Kind, LogFull, Message, Name, NameExists, NumbersSpent, OutOfRange, Record, RecordOpen, Refusal, Request, Sent, Stage, adds, isAccepted, isRequest, isSent}
 use Rattle.protocol.specs.Order.{inOrder}
 use Rattle.protocol.specs.Tables.{Model, claimed, entryBears, inPlace, partition, queue, recordBears, setQueue, standsUnder, unentered}
 use Rattle.lists.proofs.Keep.{keep-cons-same, kept, one-cons, some-mem, tally}
@@ -67,6 +67,18 @@ module _ (m : Model) (o : inOrder m ≡ true) where
           room-out m (whole-few m w) p (r .partition) h n (y .messages p (r .partition) h) (rw e (omega arith))
       go c (asking k) so y = no-true (not-sent c k (y .records)) t
       go c (told k s) so y = no-true (not-sent c k (y .records)) t
+
+  pub owner-there : (p n : ℕ) (r : Record) (rs : List Record) → keep (recordBears n) (partition m p .records) ≡ r ∷ rs → r .partition < length (m .partitions)
+  owner-there p n r rs e = let y : Fit m p n = w .local p n in go (y .what) (y .way) (y .sound) (y .has .records)
+    where
+      owner : (c : Content) (k : Kind) (s : Stage) → keep (recordBears n) (partition m p .records) ≡ recordAt c n k s ∷ [] → r .partition ≡ c .partition
+      owner c k s f = ap (λ (z : Record). z .partition) (head-eq-of-cons-eq (sym e ∙ f))
+
+      go : (c : Content) (v : Way) → Sound m c v → keep (recordBears n) (partition m p .records) ≡ recsOf c n v → r .partition < length (m .partitions)
+      go c idle so f = absurd (nil≢cons (sym f ∙ e))
+      go c (rests k s) so f = rw (owner c k s f) (so .0 .partition)
+      go c (asking k) so f = rw (owner c k Sent f) (so .partition)
+      go c (told k b) so f = rw (owner c k Sent f) (so .0 .partition)
 
   pub entry-room : (p n : ℕ) (r : Record) (rs : List Record) → keep (recordBears n) (partition m p .records) ≡ r ∷ rs → adds (r .kind) ≡ true
       → keep (entryBears n) (partition m p .entries) ≡ [] → length (partition m p .entries) < 64
