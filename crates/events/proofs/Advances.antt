@@ -22,7 +22,7 @@ use Rattle.tables.specs.declared.Partition.{Partition}
 use Rattle.tables.specs.declared.Tables.{Tables}
 use Rattle.events.specs.Called.{Answered, OpenAt, Ready, refusedWith, stored}
 use Rattle.lists.proofs.Finds.{found-below, found-kept, none-kept}
-use Rattle.events.proofs.Ways.{passes, read-entries, read-four, read-records, read-view, ready-view, refuses}
+use Rattle.events.proofs.Ways.{passes, read-four, read-records, read-view, ready-view, refuses}
 
 module _ (t : Tables) (z : Sized t) (r : Ready t) (p : ℕ) (h : p < t .count) (x : Partition) (e : x ≡ partitionAt t p) where
   seen : partition (view t) p ≡ viewPartition x

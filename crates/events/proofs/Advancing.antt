@@ -26,7 +26,7 @@ use Rattle.tables.proofs.Packs.{view-pack}
 use Rattle.tables.proofs.Stored.{entries-stored, records-stored}
 use Rattle.events.proofs.Changed.{entries-changed, records-changed, stored-again}
 use Rattle.events.proofs.Ways.{accepts, passes, read-count, read-entries, read-four, read-records, read-view, ready-stored, ready-view, refuses}
-use Rattle.protocol.specs.Tables.{Model, changeRecords, closeRecord, enterName, entryBears, entryOf, inStage, messageOf, partition, queue, recordBears, send, setPartition, setQueue, setStage, standsUnder, takeOutName, turnRecord, turned, withEntries, withRecords, Partition as Part}
+use Rattle.protocol.specs.Tables.{Model, changeRecords, closeRecord, enterName, entryBears, entryOf, inStage, messageOf, partition, queue, recordBears, send, setPartition, setStage, takeOutName, turnRecord, turned, withEntries, withRecords, Partition as Part}
 use Rattle.protocol.specs.declared.Stage.the-variants.{Cleared, Held, Ready as ReadyStage, Refused, Sent}
 use Rattle.lists.specs.declared.Found.{Found}
 use Rattle.lists.specs.declared.Found.the-variants.{At, Nothing}

@@ -1,28 +1,26 @@
 -- The ways through link and create, in plain variables.
 use mathlib.Core.Bool.{Bool, _&&_, false, true}
-use mathlib.Core.List.{List, [], _++_, _∷_}
+use mathlib.Core.List.{[], _++_, _∷_}
 use mathlib.Core.Path.{_∙_, _≡_, ap, refl, sym}
 use Prim.Native.Nat.{_+_, _<_, _≤_, suc, ℕ}
 use native.Mathlib.Omega.{arith}
 use native.Mathlib.Numerals.{add-one}
 use lib.Dec.{ltb}
 use lib.ListN.{getD, length}
-use lib.Seq.{length-take-le}
 use borrow.Author.Tests.{le-ltb, lt-ltb, ltb-true}
 use Rattle.lists.specs.Lists.{isNone, keep}
 use Rattle.names.specs.Names.{goodName}
 use Rattle.names.specs.declared.Name.{Name}
 use Rattle.protocol.specs.Ask.{ask, askTables, asked, openAsk}
 use Rattle.protocol.specs.Answers.{Outcome, check}
-use Rattle.protocol.specs.Bounds.{directories, largestNumber, maxEntries, maxPartitions, maxRecords, objects}
+use Rattle.protocol.specs.Bounds.{directories, largestNumber, maxEntries, maxRecords, objects}
 use Rattle.protocol.specs.Order.{inRange}
-use Rattle.protocol.specs.Tables.{changeRecords, claimed, giveNumber, isDirectory, isObject, isPartition, openRecord, partition, setPartition, standsUnder, unentered, withLast, withRecords, Partition as Part}
+use Rattle.protocol.specs.Tables.{claimed, giveNumber, isDirectory, isObject, isPartition, openRecord, partition, setPartition, standsUnder, unentered, withLast, withRecords, Partition as Part}
 use Rattle.protocol.specs.declared.Kind.{Kind}
 use Rattle.protocol.specs.declared.Record.{Record}
 use Rattle.protocol.specs.declared.Refusal.the-variants.{BadName, Down, EntriesFull, LogFull, NameExists, NumbersSpent, OutOfRange}
 use Rattle.protocol.specs.declared.Reply.the-variants.{None}
-use Rattle.tables.specs.View.{Sized, Stored, entriesOf, pack, packRecords, partitionAt, recordsOf, view, viewPartition}
-use Rattle.tables.specs.declared.Entries.{Entries}
+use Rattle.tables.specs.View.{Sized, entriesOf, pack, packRecords, partitionAt, recordsOf, view, viewPartition}
 use Rattle.tables.specs.declared.Partition.{Partition}
 use Rattle.tables.specs.declared.Records.{Records}
 use Rattle.tables.specs.declared.Tables.{Tables}

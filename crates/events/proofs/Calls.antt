@@ -1,10 +1,10 @@
 -- A call that tests the order first is the event of document 01 on the tables, whatever they hold.
 use mathlib.Core.Bool.{Bool, _&&_, false, true}
-use mathlib.Core.Path.{_∙_, _≡_, ap, refl, sym}
+use mathlib.Core.Path.{_∙_, _≡_, refl}
 use Prim.Native.Nat.{ℕ}
 use Rattle.names.specs.declared.Name.{Name}
 use Rattle.protocol.specs.Advance.{advance}
-use Rattle.protocol.specs.Answers.{Outcome, check}
+use Rattle.protocol.specs.Answers.{check}
 use Rattle.protocol.specs.Ask.{ask, unlink}
 use Rattle.protocol.specs.Events.{Advancing, Creating, Event, Linking, Unlinking, apply, bare, tests}
 use Rattle.protocol.specs.Order.{inOrder}

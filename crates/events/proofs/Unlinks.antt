@@ -5,7 +5,7 @@ use mathlib.Core.Path.{_∙_, _≡_, ap, refl, sym}
 use Prim.Native.Nat.{_<_, _≤_, ℕ}
 use native.Mathlib.Omega.{arith}
 use lib.Dec.{ltb}
-use lib.ListN.{getD, length, take}
+use lib.ListN.{getD}
 use borrow.Author.Tests.{le-ltb, lt-ltb, ltb-true}
 use Rattle.lists.specs.Lists.{firstAt, isNone, keep}
 use Rattle.lists.specs.declared.Found.{Found}
@@ -14,7 +14,7 @@ use Rattle.names.specs.Names.{goodName}
 use Rattle.names.specs.declared.Name.{Name}
 use Rattle.protocol.specs.Answers.{accept}
 use Rattle.protocol.specs.Ask.{unlink, unlinkFound, unlinkOf}
-use Rattle.protocol.specs.Bounds.{directories, maxPartitions, maxRecords}
+use Rattle.protocol.specs.Bounds.{directories, maxRecords}
 use Rattle.protocol.specs.Tables.{isPartition, isDirectory, openRecord, partition, recordBears, setPartition, standsUnder, withRecords, Partition as Part}
 use Rattle.protocol.specs.declared.Entry.{Entry}
 use Rattle.protocol.specs.declared.Record.{Record}

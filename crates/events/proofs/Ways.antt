@@ -1,13 +1,11 @@
 -- The ways through an event: what tables that passed the test hold, a refusal, a passed test, an acceptance.
 use mathlib.Core.Bool.{Bool, _&&_, false, true}
-use mathlib.Core.List.{List}
 use mathlib.Core.Path.{_∙_, _≡_, ap, refl, sym}
 use Prim.Native.Nat.{_<_, _≤_, ℕ}
 use native.Mathlib.Omega.{arith}
 use lib.ListN.{length}
 use lib.Seq.{length-take-le}
-use Rattle.lists.specs.Lists.{pick}
-use Rattle.protocol.specs.Answers.{Outcome, accept, accepted, check, refuse}
+use Rattle.protocol.specs.Answers.{Outcome, accept, check}
 use Rattle.protocol.specs.Bounds.{maxBackpointers, maxEntries, maxPartitions, maxRecords}
 use Rattle.protocol.specs.Elements.{isAccepted}
 use Rattle.protocol.specs.Order.{inOrder}

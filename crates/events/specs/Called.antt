@@ -1,5 +1,5 @@
 -- What a call on the stored tables gives: the answer of document 01's definition, and the tables after it, stored.
-use mathlib.Core.Bool.{Bool, true, false, _&&_, _||_, not}
+use mathlib.Core.Bool.{Bool, true, _&&_, _||_, not}
 use mathlib.Core.List.{[], _∷_}
 use mathlib.Core.Path.{_≡_}
 use Prim.Native.Nat.{ℕ, _<_}

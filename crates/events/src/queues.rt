@@ -5,7 +5,7 @@ ghost use lib.ListN.{length};
 ghost use Rattle.lists.specs.Lists.{removeAt};
 ghost use Rattle.protocol.specs.Bounds.{maxMessages, maxPartitions};
 ghost use Rattle.protocol.specs.Tables.{queue, send, setQueue};
-ghost use Rattle.tables.specs.View.{Stored, messagesOf, pack, queueAt, view};
+ghost use Rattle.tables.specs.View.{Stored, pack, queueAt, view};
 use protocol::Message;
 use tables::MAX_PARTITIONS;
 use tables::Queue;

@@ -1,4 +1,3 @@
-use borrow.Author.Needs.{needs}
 use Rattle.events.proofs.next.next_to_add.Statement.{statement}
 use Rattle.events.proofs.next.next_to_add.Tie as tie
 

@@ -1,4 +1,3 @@
-use borrow.Author.Needs.{needs}
 use Rattle.events.proofs.next.next_to_remove.Statement.{statement}
 use Rattle.events.proofs.next.next_to_remove.Tie as tie
 
