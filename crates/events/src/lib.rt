@@ -1,5 +1,5 @@
-// The nine events on the tables by value. Each public function answers any tables and any numbers exactly as document 01's
-// definition does, and gives back the tables as they were where it refuses.
+// Events on the tables by value. Link, create, unlink and advance, at the end, answer any tables and any numbers exactly as
+// document 01's definition does, and give back the tables as they were where they refuse; what stands before them is theirs.
 ghost use mathlib.Core.Path.{_≡_};
 ghost use Prim.Native.Nat.{_<_};
 ghost use lib.Dec.{ltb};
