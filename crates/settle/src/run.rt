@@ -6,9 +6,10 @@ ghost use Rattle.protocol.specs.Events.{bare};
 ghost use Rattle.protocol.specs.Settle.{plusIf, settleBy, tallied, zeroTally};
 ghost use Rattle.tables.specs.View.{view};
 ghost use Rattle.events.specs.Called.{Ready};
-ghost use Rattle.settle.specs.Settled.{Counts, settledOn, settled};
+ghost use Rattle.settle.specs.Settled.{Counts, reported, settled, settledOn};
 use crate::Settled;
 use crate::steps;
+use events::Answered;
 use protocol::Refusal;
 use protocol::Reply;
 use protocol::Tally;
@@ -90,4 +91,32 @@ pub fn settle_by_value(t: Tables, n: u32, y: Tally) -> Settled
         return ended(Refusal::OutOfOrder, y, t);
     }
     run(t, n)
+}
+
+pub fn tally_of(s: Settled) -> Tally
+    ensures { λ y. ⌜ y ≡ s .tally ⌝ }
+{
+    s.tally
+}
+
+pub fn report(s: Settled) -> Answered
+    ensures { λ a. ⌜ a ≡ reported s ⌝ }
+{
+    let refusal = s.refusal;
+    let tally = s.tally;
+    let tables = s.tables;
+    if numbers::accepted(refusal) {} else {
+        return events::refused(tables, refusal);
+    }
+    events::accepted(tables, tally.steps, Reply::None)
+}
+
+// What was reported, beside the tally.
+pub fn both(a: Answered, tally: Tally) -> Settled
+    ensures { λ s. ⌜ s ≡ record { refusal = a .answer .refusal; tally = tally; tables = a .tables } ⌝ }
+{
+    let answer = a.answer;
+    let refusal = answer.refusal;
+    let tables = a.tables;
+    ended(refusal, tally, tables)
 }
