@@ -6,7 +6,8 @@ use Rattle.names.specs.declared.Name.{Name}
 use Rattle.protocol.specs.Advance.{advance}
 use Rattle.protocol.specs.Answers.{check}
 use Rattle.protocol.specs.Ask.{ask, unlink}
-use Rattle.protocol.specs.Events.{Advancing, Creating, Event, Linking, Unlinking, apply, bare, tests}
+use Rattle.protocol.specs.Deliver.{deliver}
+use Rattle.protocol.specs.Events.{Advancing, Creating, Delivering, Event, Linking, Unlinking, apply, bare, tests}
 use Rattle.protocol.specs.Order.{inOrder}
 use Rattle.protocol.specs.declared.Kind.the-variants.{Create, Link}
 use Rattle.protocol.specs.declared.Refusal.the-variants.{OutOfOrder}
@@ -46,4 +47,8 @@ module _ (t : Tables) (a : Answered) where
     unfolding bare
     advance-called p n f h = call-passes (Advancing p n) refl f h
 
-pub ruleset calls = (link-called, create-called, call-fails, unlink-called, advance-called)
+    pub deliver-called : (s r : ℕ) → b ≡ true → a ≡ stored t (deliver (view t) s r) → a ≡ called t (Delivering s r)
+    unfolding bare
+    deliver-called s r f h = call-passes (Delivering s r) refl f h
+
+pub ruleset calls = (link-called, create-called, call-fails, unlink-called, advance-called, deliver-called)

@@ -1,9 +1,9 @@
-// Events on the tables by value. Link, create, unlink and advance, at the end, answer any tables and any numbers exactly as
+// Events on the tables by value. Link, create, unlink, advance and deliver, at the end, answer any tables and any numbers exactly as
 // document 01's definition does, and give back the tables as they were where they refuse; what stands before them is theirs.
 ghost use mathlib.Core.Path.{_≡_};
 ghost use Prim.Native.Nat.{_<_};
 ghost use lib.Dec.{ltb};
-ghost use Rattle.protocol.specs.Events.{Advancing, Creating, Linking, Unlinking};
+ghost use Rattle.protocol.specs.Events.{Advancing, Creating, Delivering, Linking, Unlinking};
 ghost use Rattle.events.specs.Called.{acceptedWith, called, refusedWith};
 use names::Name;
 use protocol::Answer;
@@ -15,7 +15,9 @@ use tables::Tables;
 pub mod ask;
 pub mod next;
 pub mod queues;
+pub mod receive;
 pub mod step;
+pub mod verdict;
 
 // What a call answers, and the tables after it.
 pub struct Answered {
@@ -98,4 +100,13 @@ pub fn advance(t: Tables, p: u32, number: u32) -> Answered
         return refused(t, Refusal::OutOfOrder);
     }
     step::advance_in_order(t, p, number)
+}
+
+pub fn deliver(t: Tables, s: u32, r: u32) -> Answered
+    ensures { λ a. ⌜ a ≡ called t (Delivering s r) ⌝ }
+{
+    if order::in_order(t) {} else {
+        return refused(t, Refusal::OutOfOrder);
+    }
+    receive::deliver_in_order(t, s, r)
 }
