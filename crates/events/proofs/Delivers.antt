@@ -1,19 +1,17 @@
 -- The ways through deliver, in plain variables: sender and receiver, the queue between them, its oldest message.
 use mathlib.Core.Bool.{Bool, _&&_, false, true}
 use mathlib.Core.List.{List, [], _∷_}
-use mathlib.Core.Path.{_∙_, _≡_, ap, refl, subst, sym}
+use mathlib.Core.Path.{_∙_, _≡_, ap, refl, sym}
 use Prim.Native.Nat.{_*_, _+_, _<_, _≤_, ℕ}
 use native.Mathlib.Omega.{arith}
 use borrow.Author.Tests.{lt-ltb, ltb-true}
 use lib.Dec.{ltb}
 use lib.ListN.{getD, length, take}
 use lib.Seq.{getD-take, length-take-le}
-use Rattle.lists.specs.Lists.{keep, removeAt}
-use Rattle.protocol.specs.Answers.{accept}
+use Rattle.lists.specs.Lists.{removeAt}
 use Rattle.protocol.specs.Bounds.{maxMessages, maxPartitions}
-use Rattle.protocol.specs.Deliver.{deliver, deliverOldest, isExactly, receive}
-use Rattle.protocol.specs.Elements.{isRequest}
-use Rattle.protocol.specs.Tables.{Model, isPartition, partition, queue, recordBears, setQueue, Partition as Part}
+use Rattle.protocol.specs.Deliver.{deliver, deliverOldest, receive}
+use Rattle.protocol.specs.Tables.{Model, isPartition, partition, queue, setQueue, Partition as Part}
 use Rattle.protocol.specs.declared.Message.{Message}
 use Rattle.protocol.specs.declared.Refusal.the-variants.{Down, OutOfRange, QueueEmpty}
 use Rattle.protocol.specs.declared.Reply.the-variants.{None}

@@ -1,28 +1,22 @@
 -- What a received message does to stored tables, in plain variables.
-use mathlib.Core.Bool.{Bool, false, true}
+use mathlib.Core.Bool.{Bool, true}
 use mathlib.Core.List.{List, [], _++_, _∷_, nil≢cons}
-use mathlib.Core.Path.{_∙_, _≡_, ap, ap₂, refl, subst, sym}
+use mathlib.Core.Path.{_∙_, _≡_, ap, refl, subst, sym}
 use Prim.Native.Nat.{_-_, _<_, _≤_, ℕ}
 use native.Mathlib.Omega.{arith}
-use borrow.Author.Tests.{leb-false}
-use lib.Dec.{eqb, leb}
 use lib.ListN.{getD, length, length-append, length-take, replicate, set, take}
 use lib.Seq.{getD-take}
-use Rattle.lists.specs.Lists.{firstAt, keep, mapIf, pad, pick, removeAt, without}
+use Rattle.lists.specs.Lists.{firstAt, keep, mapIf, pad, removeAt, without}
 use Rattle.lists.specs.declared.Found.{Found}
 use Rattle.lists.specs.declared.Found.the-variants.{At, Nothing}
-use Rattle.protocol.specs.Bounds.{maxBackpointers, maxMessages, maxPartitions, maxRecords}
-use Rattle.protocol.specs.Deliver.{addVerdict, answerTo, backpointerOf, carryOut, dropVerdict, inItsPlace, isExactly, land, ofObject, placeVerdict, receive, stageAfter, toAdd, unlessFull, verdict, verdictOf}
-use Rattle.protocol.specs.Elements.{isRequest}
-use Rattle.protocol.specs.Tables.{Model, addBackpointer, changeBackpointers, changeRecords, dropBackpointer, inStage, partition, queue, recordBears, send, setPartition, withBackpointers, withRecords, Partition as Part}
+use Rattle.protocol.specs.Bounds.{maxBackpointers, maxPartitions, maxRecords}
+use Rattle.protocol.specs.Deliver.{answerTo, backpointerOf, carryOut, isExactly, land, receive, stageAfter, verdict, verdictOf}
+use Rattle.protocol.specs.Tables.{Model, addBackpointer, changeBackpointers, dropBackpointer, inStage, partition, recordBears, send, setPartition, withBackpointers, withRecords, Partition as Part}
 use Rattle.protocol.specs.declared.Backpointer.{Backpointer}
 use Rattle.protocol.specs.declared.Body.{Body}
 use Rattle.protocol.specs.declared.Body.the-variants.{No, NoBecause, Request, Yes}
-use Rattle.protocol.specs.declared.Kind.{Kind}
-use Rattle.protocol.specs.declared.Kind.the-variants.{Create, Link, Unlink}
 use Rattle.protocol.specs.declared.Message.{Message}
 use Rattle.protocol.specs.declared.Reason.{Reason}
-use Rattle.protocol.specs.declared.Reason.the-variants.{PlaceTaken}
 use Rattle.protocol.specs.declared.Record.{Record}
 use Rattle.protocol.specs.declared.Stage.{Stage}
 use Rattle.protocol.specs.declared.Verdict.{Verdict}
@@ -38,12 +32,13 @@ use Rattle.lists.proofs.Fills.{remove-split}
 use Rattle.lists.proofs.Finds.{First, first-kept, none-kept}
 use Rattle.lists.proofs.Keep.{keep-cons-other, keep-cons-same, kept}
 use Rattle.lists.proofs.Places.{mapIf-at, without-at}
-use Rattle.lists.proofs.Tests.{byTest, no-true}
+use Rattle.lists.proofs.Tests.{byTest}
 use Rattle.protocol.proofs.Numbers.{queue-part}
 use Rattle.tables.proofs.Packs.{view-pack}
 use Rattle.tables.proofs.Stored.{backpointers-stored, records-stored}
 use Rattle.tables.proofs.Views.{partition-there}
 use Rattle.events.proofs.Changed.{backpointers-changed, records-changed, stored-again}
+use Rattle.events.proofs.Verdicts.{adds-below}
 
 -- ---- lists: what a search found is removed or changed, or nothing is
 
@@ -119,45 +114,6 @@ pub few-records : (n : ℕ) → n ≤ maxRecords → n ≤ 64
 few-records n h = omega arith
 
 pub ruleset stagings = (staged-none, staged-at, few-records)
-
--- ---- only where there is room does a verdict add
-
-says-not : (b : Body) → AddsIt ≡ SaysOnly b → ⊥
-says-not b h = absurd (let z : _≡_ {A = ℕ} 0 1 = cc in omega arith)
-
-no-drop : (bs : List Backpointer) → AddsIt ≡ dropVerdict bs → ⊥
-no-drop [] h = says-not No h
-no-drop (b ∷ bs) h = absurd (let z : _≡_ {A = ℕ} 0 1 = cc in omega arith)
-
-not-full : (full : Bool) → AddsIt ≡ unlessFull full → full ≡ false
-not-full true h = cc
-not-full false h = refl
-
-add-below : (k : Kind) (bs : List Backpointer) (full : Bool) → AddsIt ≡ addVerdict k bs full → full ≡ false
-add-below Link [] full h = cc
-add-below Link (b ∷ bs) full h = not-full full h
-add-below Create [] full h = not-full full h
-add-below Create (b ∷ bs) full h = cc
-add-below Unlink bs full h = cc
-
-place-below : (x : Message) (bs : List Backpointer) (v : Verdict) → AddsIt ≡ placeVerdict x bs v → AddsIt ≡ v
-place-below x [] v h = h
-place-below x (b ∷ bs) v h = absurd (go (eqb (b .number) (x .number)) h)
-  where
-    go : (t : Bool) → AddsIt ≡ pick t (SaysOnly Yes) (SaysOnly (NoBecause PlaceTaken)) → ⊥
-    go true h = says-not _ h
-    go false h = says-not _ h
-
-to-add-below : (k : Kind) (bs : List Backpointer) (s : ℕ) (x : Message) → AddsIt ≡ toAdd k bs s x → length bs < maxBackpointers
-to-add-below k bs s x h =
-    let full : Bool = leb maxBackpointers (length bs) in
-    let own : List Backpointer = keep (ofObject (x .object)) bs in
-    leb-false maxBackpointers (length bs) (add-below k own full (place-below x (keep (inItsPlace s x) bs) (addVerdict k own full) h))
-
-adds-below : (k : Kind) (bs : List Backpointer) (s : ℕ) (x : Message) → AddsIt ≡ verdictOf k bs s x → length bs < maxBackpointers
-adds-below Link bs s x h = to-add-below Link bs s x h
-adds-below Create bs s x h = to-add-below Create bs s x h
-adds-below Unlink bs s x h = absurd (no-drop (keep (isExactly s x) bs) h)
 
 -- ---- stored tables: of the partition y that was read at r
 

@@ -3,6 +3,8 @@ use mathlib.Core.Bool.{Bool, false, true}
 use mathlib.Core.List.{List, [], _∷_}
 use mathlib.Core.Path.{_∙_, _≡_, ap, refl, sym}
 use Prim.Native.Nat.{_<_, _≤_, ℕ}
+use native.Mathlib.Omega.{arith}
+use borrow.Author.Tests.{leb-false}
 use lib.Dec.{eqb, leb}
 use lib.ListN.{getD, length, take}
 use lib.Seq.{length-take-le}
@@ -10,15 +12,16 @@ use Rattle.lists.specs.Lists.{firstAt, isNone, isSome, keep, pick}
 use Rattle.lists.specs.declared.Found.{Found}
 use Rattle.lists.specs.declared.Found.the-variants.{At, Nothing}
 use Rattle.protocol.specs.Bounds.{maxBackpointers}
-use Rattle.protocol.specs.Deliver.{addVerdict, dropVerdict, inItsPlace, isExactly, placeVerdict, toAdd, unlessFull, verdictOf}
+use Rattle.protocol.specs.Deliver.{addVerdict, dropVerdict, inItsPlace, isExactly, ofObject, placeVerdict, toAdd, unlessFull, verdictOf}
 use Rattle.protocol.specs.declared.Backpointer.{Backpointer}
+use Rattle.protocol.specs.declared.Body.{Body}
 use Rattle.protocol.specs.declared.Body.the-variants.{No, NoBecause, Yes}
 use Rattle.protocol.specs.declared.Kind.{Kind}
 use Rattle.protocol.specs.declared.Kind.the-variants.{Create, Link, Unlink}
 use Rattle.protocol.specs.declared.Message.{Message}
 use Rattle.protocol.specs.declared.Reason.the-variants.{ObjectIdle, ObjectInUse, PlaceTaken}
 use Rattle.protocol.specs.declared.Verdict.{Verdict}
-use Rattle.protocol.specs.declared.Verdict.the-variants.{DropsIt, SaysOnly}
+use Rattle.protocol.specs.declared.Verdict.the-variants.{AddsIt, DropsIt, SaysOnly}
 use Rattle.tables.specs.Slots.{noBackpointer}
 use Rattle.lists.proofs.Finds.{found-kept, hit-some, none-kept}
 use Rattle.lists.proofs.Tests.{no-true}
@@ -114,3 +117,42 @@ module _ (k : Kind) (bs : List Backpointer) (s : ℕ) (x : Message) (v : Verdict
   verdict-unlink q h = h ∙ rw q refl
 
 pub ruleset verdicts = (verdict-link, verdict-create, verdict-unlink)
+
+-- ---- only where there is room does a verdict add
+
+says-not : (b : Body) → AddsIt ≡ SaysOnly b → ⊥
+says-not b h = absurd (let z : _≡_ {A = ℕ} 0 1 = cc in omega arith)
+
+no-drop : (bs : List Backpointer) → AddsIt ≡ dropVerdict bs → ⊥
+no-drop [] h = says-not No h
+no-drop (b ∷ bs) h = absurd (let z : _≡_ {A = ℕ} 0 1 = cc in omega arith)
+
+not-full : (full : Bool) → AddsIt ≡ unlessFull full → full ≡ false
+not-full true h = cc
+not-full false h = refl
+
+add-below : (k : Kind) (bs : List Backpointer) (full : Bool) → AddsIt ≡ addVerdict k bs full → full ≡ false
+add-below Link [] full h = cc
+add-below Link (b ∷ bs) full h = not-full full h
+add-below Create [] full h = not-full full h
+add-below Create (b ∷ bs) full h = cc
+add-below Unlink bs full h = cc
+
+place-below : (x : Message) (bs : List Backpointer) (v : Verdict) → AddsIt ≡ placeVerdict x bs v → AddsIt ≡ v
+place-below x [] v h = h
+place-below x (b ∷ bs) v h = absurd (go (eqb (b .number) (x .number)) h)
+  where
+    go : (t : Bool) → AddsIt ≡ pick t (SaysOnly Yes) (SaysOnly (NoBecause PlaceTaken)) → ⊥
+    go true h = says-not _ h
+    go false h = says-not _ h
+
+to-add-below : (k : Kind) (bs : List Backpointer) (s : ℕ) (x : Message) → AddsIt ≡ toAdd k bs s x → length bs < maxBackpointers
+to-add-below k bs s x h =
+    let full : Bool = leb maxBackpointers (length bs) in
+    let own : List Backpointer = keep (ofObject (x .object)) bs in
+    leb-false maxBackpointers (length bs) (add-below k own full (place-below x (keep (inItsPlace s x) bs) (addVerdict k own full) h))
+
+pub adds-below : (k : Kind) (bs : List Backpointer) (s : ℕ) (x : Message) → AddsIt ≡ verdictOf k bs s x → length bs < maxBackpointers
+adds-below Link bs s x h = to-add-below Link bs s x h
+adds-below Create bs s x h = to-add-below Create bs s x h
+adds-below Unlink bs s x h = absurd (no-drop (keep (isExactly s x) bs) h)

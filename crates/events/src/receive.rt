@@ -1,6 +1,5 @@
 // Deliver: the oldest message from a sender to a receiver (document 01, 'The nine events', 5).
 ghost use mathlib.Core.Bool.{_&&_};
-ghost use mathlib.Core.List.{[], _∷_};
 ghost use mathlib.Core.Path.{_≡_};
 ghost use Prim.Native.Nat.{_<_, _≤_};
 ghost use lib.Dec.{ltb};
