@@ -5,3 +5,6 @@ pub mod Unlinks
 pub mod Advancing
 pub mod Advances
 pub mod Calls
+pub mod Mapped
+pub mod Loses
+pub mod Faulty

@@ -19,7 +19,10 @@ use Rattle.protocol.specs.Bounds.{largestNumber, maxMessages, maxPartitions, ma
 use Rattle.protocol.specs.declared.Record.{Record}
 use Rattle.tables.specs.Slots.{noRecord}
 use Rattle.tables.specs.View.{view, pack, shaped, partitionAt}
+use Rattle.protocol.specs.Faults.{between, fallsWith, sentBetween, touches}
 pub use Rattle.events.specs.declared.Answered.{Answered}
+pub use Rattle.events.specs.declared.losses.Loss.{Loss}
+pub use Rattle.events.specs.declared.losses.Loss.the-variants.{Crash, Cut}
 
 -- a refusal gives back the tables that were lent
 unfoldable pub stored : Tables → Outcome → Answered
@@ -84,3 +87,12 @@ pub record SendsTo (t : Tables) (p : ℕ) (r : Record) (q : ℕ) : Type 0 where
   pub there : q < t .count
   pub four : q < maxPartitions
   pub room : length (queue (view t) p q) < maxMessages
+
+-- what is lost, as `lose` asks it: which records of partition p relapse, and which queues empty
+abbrev pub relapsesOf : Loss → ℕ → Record → Bool
+relapsesOf (Cut a b) p r = sentBetween a b p r
+relapsesOf (Crash q) p r = fallsWith q p r
+
+abbrev pub emptiesOf : Loss → ℕ → ℕ → Bool
+emptiesOf (Cut a b) s r = between a b s r
+emptiesOf (Crash p) s r = touches p s r
