@@ -111,7 +111,7 @@ pub fn relapses(loss: Loss, p: usize, r: Record) -> bool
 // ---- the losses
 
 // Partition p's record r, after the loss.
-pub fn left_of(loss: Loss, p: usize, r: Record) -> Record
+pub fn record_after(loss: Loss, p: usize, r: Record) -> Record
     ensures { λ x. ⌜ x ≡ pick (relapsesOf loss p r) (inStage ReadyStage r) r ⌝ }
 {
     if relapses(loss, p, r) {} else {
@@ -129,8 +129,8 @@ pub fn relapse_records(loss: Loss, p: usize, l: Records) -> Records
     let mut i: usize = 0;
     while i < count {
         let item = l.items[i];
-        let left = left_of(loss, p, item);
-        items[i] = left;
+        let after = record_after(loss, p, item);
+        items[i] = after;
         i += 1;
     }
     Records {
@@ -158,8 +158,8 @@ pub fn relapse(loss: Loss, t: Tables) -> [Partition; MAX_PARTITIONS]
     let mut i: usize = 0;
     while i < count {
         let x = t.partitions[i];
-        let left = relapse_partition(loss, i, x);
-        partitions[i] = left;
+        let after = relapse_partition(loss, i, x);
+        partitions[i] = after;
         i += 1;
     }
     partitions

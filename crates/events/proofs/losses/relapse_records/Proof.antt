@@ -21,8 +21,8 @@ mul-item c = search (records-lost, records-length, needs)
 element-copy-out-item : tie.Need-element-copy-out-item Inv-loop μ-loop
 element-copy-out-item c = search (records-lost, records-length, needs)
 
-left-of-requires : tie.Need-left-of-requires Inv-loop μ-loop
-left-of-requires c κs = search (records-lost, records-length, needs)
+record-after-requires : tie.Need-record-after-requires Inv-loop μ-loop
+record-after-requires c κs = search (records-lost, records-length, needs)
 
 mul-items : tie.Need-mul-items Inv-loop μ-loop
 mul-items c = search (records-lost, records-length, needs)
@@ -51,7 +51,7 @@ relapse-records-spec =
     loop-holds
     mul-item
     element-copy-out-item
-    left-of-requires
+    record-after-requires
     mul-items
     array-set-from-items
     add-i

@@ -1,7 +1,7 @@
 use Rattle.events.proofs.Loses.{picks}
 use borrow.Author.Needs.{needs}
-use Rattle.events.proofs.losses.left_of.Statement.{statement}
-use Rattle.events.proofs.losses.left_of.Tie as tie
+use Rattle.events.proofs.losses.record_after.Statement.{statement}
+use Rattle.events.proofs.losses.record_after.Tie as tie
 
 relapses-requires : tie.Need-relapses-requires
 relapses-requires c κs = search (picks, needs)
@@ -15,5 +15,5 @@ in-stage-requires c κs = search (picks, needs)
 returns-2 : tie.Need-returns-2
 returns-2 c = search (picks, needs)
 
-pub left-of-spec : {M : Type 1} → statement M
-left-of-spec = tie.close (tie.spec relapses-requires returns in-stage-requires returns-2)
+pub record-after-spec : {M : Type 1} → statement M
+record-after-spec = tie.close (tie.spec relapses-requires returns in-stage-requires returns-2)
