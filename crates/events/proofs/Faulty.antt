@@ -3,7 +3,7 @@ use mathlib.Core.Bool.{Bool, _&&_, and-false, false, not, or-true, true}
 use mathlib.Core.Path.{_∙_, _≡_, ap, refl, sym}
 use Prim.Native.Nat.{_<_, _≤_, ℕ}
 use lib.Dec.{eqb, leb, ltb}
-use borrow.Author.Tests.{eq-eqb, leb-true, lt-ltb, ltb-true, ne-eqb}
+use borrow.Author.Tests.{eq-eqb, leb-true, lt-ltb, ne-eqb}
 use Rattle.protocol.specs.Answers.{check}
 use Rattle.protocol.specs.Bounds.{maxPartitions}
 use Rattle.protocol.specs.Events.{Opening, apply, bare}

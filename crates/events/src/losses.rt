@@ -10,7 +10,7 @@ ghost use Rattle.protocol.specs.Elements.{isSent};
 ghost use Rattle.protocol.specs.Faults.{between, drained, fallsWith, lose, relapsed, sentBetween, touches};
 ghost use Rattle.protocol.specs.Tables.{inStage};
 ghost use Rattle.protocol.specs.declared.Stage.the-variants.{Ready as ReadyStage};
-ghost use Rattle.tables.specs.View.{pack, packPartition, packQueue, packRecords, partitionAt, recordsOf, view, viewPartition, zeroPartition};
+ghost use Rattle.tables.specs.View.{pack, packPartition, packQueue, packRecords, recordsOf, view, viewPartition, zeroPartition};
 ghost use Rattle.events.specs.Called.{Ready, emptiesOf, relapsesOf};
 use crate::step;
 use protocol::Record;
