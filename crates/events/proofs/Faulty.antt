@@ -4,10 +4,10 @@ use mathlib.Core.Path.{_∙_, _≡_, ap, refl, sym}
 use Prim.Native.Nat.{_<_, _≤_, ℕ}
 use lib.Dec.{eqb, leb, ltb}
 use borrow.Author.Tests.{eq-eqb, leb-true, lt-ltb, ne-eqb}
-use Rattle.protocol.specs.Answers.{check}
+use Rattle.protocol.specs.Answers.{accept, check}
 use Rattle.protocol.specs.Bounds.{maxPartitions}
 use Rattle.protocol.specs.Events.{Opening, apply, bare}
-use Rattle.protocol.specs.Faults.{crash, cut, lose, openTables, recover}
+use Rattle.protocol.specs.Faults.{between, crash, cut, lose, openTables, recover, sentBetween}
 use Rattle.protocol.specs.Tables.{Model, fresh, isPartition, partition, setUp, Partition as Part}
 use Rattle.protocol.specs.declared.Record.{Record}
 use Rattle.protocol.specs.declared.Refusal.the-variants.{CutFromItself, Down, IsUp, OutOfRange}
@@ -66,9 +66,15 @@ module _ (t : Tables) (z : Sized t) (r : Ready t) (a : Answered) where
       abbrev Goal : Type 0
       Goal = a ≡ stored t (cut (view t) p q)
 
-      down : (partition (view t) p .up && partition (view t) q .up) ≡ false → a ≡ refusedWith t Down → Goal
+      abbrev bothUp : Bool
+      bothUp = partition (view t) p .up && partition (view t) q .up
+
+      onwards : a ≡ stored t (check bothUp Down (view t) (accept 0 None (lose (sentBetween p q) (between p q) (view t)))) → Goal
       unfolding cut
-      down d w = w ∙ refuses t _ Down _ _ refl d ∙ passes t _ CutFromItself _ _ (ap not n) ∙ passes t _ OutOfRange _ _ (both-true (there p h) (there q g))
+      onwards w = w ∙ passes t _ CutFromItself _ _ (ap not n) ∙ passes t _ OutOfRange _ _ (both-true (there p h) (there q g))
+
+      down : bothUp ≡ false → a ≡ refusedWith t Down → Goal
+      down d w = onwards (w ∙ refuses t _ Down _ _ refl d)
 
       pub cut-down : (x : Partition) → x ≡ partitionAt t p → x .up ≡ false → a ≡ refusedWith t Down → Goal
       cut-down x e f w = down (rw (up p h x e, f) refl) w
@@ -78,10 +84,7 @@ module _ (t : Tables) (z : Sized t) (r : Ready t) (a : Answered) where
 
       pub cut-done : (x y : Partition) (u : Tables) → x ≡ partitionAt t p → x .up ≡ true → y ≡ partitionAt t q → y .up ≡ true
           → u ≡ pack (lose (relapsesOf (Cut p q)) (emptiesOf (Cut p q)) (view t)) → a ≡ acceptedWith u 0 None → Goal
-      unfolding cut
-      cut-done x y u e c f d v w =
-          w ∙ accepts t u 0 None _ v ∙ passes t _ Down _ _ (both-true (up p h x e ∙ c) (up q g y f ∙ d)) ∙ passes t _ CutFromItself _ _ (ap not n)
-          ∙ passes t _ OutOfRange _ _ (both-true (there p h) (there q g))
+      cut-done x y u e c f d v w = onwards (w ∙ accepts t u 0 None _ v ∙ passes t _ Down _ _ (both-true (up p h x e ∙ c) (up q g y f ∙ d)))
 
   -- ---- crash and recover of partition p, which was read as x
 
@@ -90,8 +93,8 @@ module _ (t : Tables) (z : Sized t) (r : Ready t) (a : Answered) where
     unfolding crash
     crash-down d w = w ∙ refuses t _ Down _ _ refl (up p h x e ∙ d) ∙ passes t _ OutOfRange _ _ (there p h)
 
-    pub crash-done : (u v : Tables) → x .up ≡ true → u ≡ pack (lose (relapsesOf (Crash p)) (emptiesOf (Crash p)) (view t)) → v ≡ pack (setUp (view u) p false) → a ≡ acceptedWith v 0 None
-        → a ≡ stored t (crash (view t) p)
+    pub crash-done : (u v : Tables) → x .up ≡ true → u ≡ pack (lose (relapsesOf (Crash p)) (emptiesOf (Crash p)) (view t))
+        → v ≡ pack (setUp (view u) p false) → a ≡ acceptedWith v 0 None → a ≡ stored t (crash (view t) p)
     unfolding crash
     crash-done u v c k l w =
         let s : v ≡ pack (setUp (lose (relapsesOf (Crash p)) (emptiesOf (Crash p)) (view t)) p false) = l ∙ ap (λ (m : Model). pack (setUp m p false)) (ap view k ∙ view-pack _) in

@@ -53,22 +53,25 @@ module _ (loss : Loss) where
   pub records-left : (p : ℕ) (l : Records) → packRecords (recordsOf l) ≡ l → (i : ℕ) (ys : List Record) → Mapping (leaves p) (l .items) i ys → i ≤ l .count → l .count ≤ i
       → record { count = l .count; items = ys } ≡ packRecords (mapIf (relapsesOf loss p) (inStage ReadyStage) (recordsOf l))
   records-left p l e i ys s h g =
+      let k : List Record = mapIf (relapsesOf loss p) (inStage ReadyStage) (recordsOf l) in
       let n : length (recordsOf l) ≡ l .count = ap (λ (y : Records). y .count) e in
       let w : l .items ≡ pad maxRecords zeroRecord (recordsOf l) = ap (λ (y : Records). y .items) (sym e) in
-      let a : l .count ≡ length (mapIf (relapsesOf loss p) (inStage ReadyStage) (recordsOf l)) = sym (length-mapIf (relapsesOf loss p) (inStage ReadyStage) (recordsOf l) ∙ n) in
-      let b : ys ≡ pad maxRecords zeroRecord (mapIf (relapsesOf loss p) (inStage ReadyStage) (recordsOf l)) =
+      let a : l .count ≡ length k = sym (length-mapIf (relapsesOf loss p) (inStage ReadyStage) (recordsOf l) ∙ n) in
+      let b : ys ≡ pad maxRecords zeroRecord k =
       mapping-end (leaves p) (l .items) maxRecords (l .count) zeroRecord (recordsOf l) i ys w n s h g
       ∙ ap (pad maxRecords zeroRecord) (mapIf-from (relapsesOf loss p) (inStage ReadyStage) (recordsOf l) 0)
       in
       λ j. record { count = a j; items = b j }
 
-  pub records-turn : (p : ℕ) (l : Records) (i : ℕ) (ys : List Record) (x v : Record) → length (l .items) ≡ maxRecords → Mapping (leaves p) (l .items) i ys → i < l .count → l .count ≤ maxRecords
-      → x ≡ getD (l .items) i noRecord → v ≡ pick (relapsesOf loss p x) (inStage ReadyStage x) x → Mapping (leaves p) (l .items) (i + 1) (set ys i v)
+  pub records-turn : (p : ℕ) (l : Records) (i : ℕ) (ys : List Record) (x v : Record) → length (l .items) ≡ maxRecords
+      → Mapping (leaves p) (l .items) i ys → i < l .count → l .count ≤ maxRecords → x ≡ getD (l .items) i noRecord
+      → v ≡ pick (relapsesOf loss p x) (inStage ReadyStage x) x → Mapping (leaves p) (l .items) (i + 1) (set ys i v)
   records-turn p l i ys x v n s h g e c = mapping-turn (leaves p) (l .items) noRecord i ys s (omega arith) x v e c
 
   -- ---- one partition
 
-  pub partition-left : (p : ℕ) (x : Partition) (l : Records) → packPartition (viewPartition x) ≡ x → l ≡ packRecords (mapIf (relapsesOf loss p) (inStage ReadyStage) (recordsOf (x .records)))
+  pub partition-left : (p : ℕ) (x : Partition) (l : Records) → packPartition (viewPartition x) ≡ x
+      → l ≡ packRecords (mapIf (relapsesOf loss p) (inStage ReadyStage) (recordsOf (x .records)))
       → record { up = x .up; last = x .last; entries = x .entries; backpointers = x .backpointers; records = l } ≡ packPartition (relapsed (relapsesOf loss) p (viewPartition x))
   partition-left p x l e h =
       λ j. record { up = x .up; last = x .last; entries = sym e j .entries; backpointers = sym e j .backpointers; records = h j }
@@ -104,7 +107,8 @@ module _ (loss : Loss) where
         let w : t .partitions ≡ pad maxPartitions zeroPartition l = ap (λ (u : Tables). u .partitions) (sym packed) in
         mapping-end relapsing (t .partitions) maxPartitions (t .count) zeroPartition l i ys w n s h g
         ∙ ap (pad maxPartitions zeroPartition)
-        (map-mapFrom packPartition (relapsed (relapsesOf loss)) relapsing (λ p x. ap (λ (y : Part). packPartition (relapsed (relapsesOf loss) p y)) (partition-unpack x)) (view t .partitions) 0)
+        (map-mapFrom packPartition (relapsed (relapsesOf loss)) relapsing
+        (λ p x. ap (λ (y : Part). packPartition (relapsed (relapsesOf loss) p y)) (partition-unpack x)) (view t .partitions) 0)
 
     pub queues-left : (i : ℕ) (ys : List Queue) → Mapping emptying (t .queues) i ys → queueCount ≤ i → ys ≡ map packQueue (mapFrom (drained (emptiesOf loss)) 0 (view t .queues))
     unfolding pack

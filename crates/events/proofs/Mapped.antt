@@ -69,7 +69,8 @@ module _ {A : Type 0} (u : ℕ → A → A) where
         s .now ∙ ap₂ (λ (l k : List A). mapFrom u 0 l ++ k) all none ∙ append-nil (mapFrom u 0 xs)
 
     -- the array holds the list l, filled up, and its places are changed
-    pub mapping-end : (N n : ℕ) (z : A) (l : List A) (i : ℕ) (ys : List A) → xs ≡ pad N z l → length l ≡ n → Mapping i ys → i ≤ n → n ≤ i → ys ≡ pad N z (mapFrom u 0 l)
+    pub mapping-end : (N n : ℕ) (z : A) (l : List A) (i : ℕ) (ys : List A) → xs ≡ pad N z l → length l ≡ n
+        → Mapping i ys → i ≤ n → n ≤ i → ys ≡ pad N z (mapFrom u 0 l)
     unfolding pad
     mapping-end N n z l i ys e m s h g =
         let k : i ≡ length l = omega arith in

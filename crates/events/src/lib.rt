@@ -1,6 +1,5 @@
-// Events on the tables by value. Those at the end (link, create, unlink, advance, cut, crash, recover, open) answer any tables and
-// any numbers exactly as document 01's definition does, and give back the tables as they were where they refuse; what stands
-// before them is theirs.
+// Events on the tables by value. Those at the end, by document 01's names, answer any tables and any numbers exactly as its
+// definition does, and give back the tables as they were where they refuse; what stands before them is theirs.
 ghost use mathlib.Core.Path.{_≡_};
 ghost use Prim.Native.Nat.{_<_};
 ghost use lib.Dec.{ltb};
