@@ -22,7 +22,10 @@ use Rattle.protocol.specs.declared.Message.{Message}
 use Rattle.protocol.specs.declared.Record.{Record}
 use Rattle.tables.specs.Slots.{noRecord}
 use Rattle.tables.specs.View.{Stored, view, pack, shaped, partitionAt}
+use Rattle.protocol.specs.Faults.{between, fallsWith, sentBetween, touches}
 pub use Rattle.events.specs.declared.Answered.{Answered}
+pub use Rattle.events.specs.declared.losses.Loss.{Loss}
+pub use Rattle.events.specs.declared.losses.Loss.the-variants.{Crash, Cut}
 
 -- a refusal gives back the tables that were lent
 unfoldable pub stored : Tables → Outcome → Answered
@@ -113,3 +116,12 @@ pub record Received (t : Tables) (s r : ℕ) (x : Message) : Type 0 where
   pub answers : isRequest (x .body) ≡ true → Answers t s r
   pub exactly : OneExactly t s r x
   pub lands : Lands t r x
+
+-- what is lost, as `lose` asks it: which records of partition p relapse, and which queues empty
+abbrev pub relapsesOf : Loss → ℕ → Record → Bool
+relapsesOf (Cut a b) p r = sentBetween a b p r
+relapsesOf (Crash q) p r = fallsWith q p r
+
+abbrev pub emptiesOf : Loss → ℕ → ℕ → Bool
+emptiesOf (Cut a b) s r = between a b s r
+emptiesOf (Crash p) s r = touches p s r
