@@ -8,5 +8,5 @@ pub extern "C" fn picture_check(bytes: &[u8]) -> u32
     ensures { λ r. ⌜ r ≡ refusalNumber (lone (now (bytes .entry))) ⌝ }
 {
     let refusal = reading::lone::check(bytes);
-    reading::refusal_number(refusal)
+    numbers::refusal_number(refusal)
 }

@@ -240,16 +240,15 @@ pub fn advance_up(t: Tables, p: usize, number: u32) -> Answered
     }
 }
 
-pub fn advance_there(t: Tables, p: u32, number: u32) -> Answered
+pub fn advance_there(t: Tables, p: usize, number: u32) -> Answered
     requires { ⌜ Ready t × (p < t .count) × (p < maxPartitions) ⌝ }
     ensures { λ a. ⌜ a ≡ stored t (advance (view t) p number) ⌝ }
 {
-    let at = p as usize;
-    let x = t.partitions[at];
+    let x = t.partitions[p];
     if x.up {} else {
         return refused(t, Refusal::Down);
     }
-    advance_up(t, at, number)
+    advance_up(t, p, number)
 }
 
 pub fn advance_in_order(t: Tables, p: u32, number: u32) -> Answered
@@ -259,5 +258,6 @@ pub fn advance_in_order(t: Tables, p: u32, number: u32) -> Answered
     if is_there(t.count, p) {} else {
         return refused(t, Refusal::OutOfRange);
     }
-    advance_there(t, p, number)
+    let at = p as usize;
+    advance_there(t, at, number)
 }

@@ -2,8 +2,8 @@
 ghost use mathlib.Core.Path.{_≡_};
 ghost use Rattle.tables.specs.View.{viewPartition, Ranged};
 ghost use Rattle.picture.specs.Lone.{orderAlone, lone};
-use crate::numbers::accepted;
 use crate::read_picture;
+use numbers::accepted;
 use order::partition;
 use protocol::Refusal;
 use tables::Partition;

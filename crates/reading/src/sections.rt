@@ -8,7 +8,7 @@ ghost use Rattle.picture.specs.Picture.{first, EN, BP, LG, entryFits, backpoint
 ghost use Rattle.picture.specs.Answers.{Gathered};
 use crate::bytes;
 use crate::decode;
-use crate::numbers::accepted;
+use numbers::accepted;
 use picture::B;
 use picture::BACKPOINTER_SIZE;
 use picture::BackpointersRead;

@@ -9,8 +9,8 @@ ghost use Rattle.picture.specs.Picture.{first, EN, BP, LG, entryFits, backpoint
 ghost use Rattle.picture.specs.Standing.{farthest, stays, handsHead, hands, handsEntry, handsBackpointer, handsRecord, handsClose, handedNext, handedAt};
 use crate::bytes;
 use crate::decode;
-use crate::numbers::accepted;
 use crate::whole;
+use numbers::accepted;
 use picture::B;
 use picture::BACKPOINTER_SIZE;
 use picture::E;

@@ -2,8 +2,8 @@ use mathlib.Core.Path.{ap}
 use Prim.Native.Nat.{ℕ}
 use lib.Dec.{eqb}
 use borrow.Author.Needs.{needs}
-use Rattle.reading.proofs.numbers.accepted.Statement.{statement}
-use Rattle.reading.proofs.numbers.accepted.Tie as tie
+use Rattle.numbers.proofs.accepted.Statement.{statement}
+use Rattle.numbers.proofs.accepted.Tie as tie
 
 refusal-number-requires : tie.Need-refusal-number-requires
 refusal-number-requires c κs = search needs

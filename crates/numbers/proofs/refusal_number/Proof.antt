@@ -1,8 +1,8 @@
 use mathlib.Core.Path.{ap, sym}
 use Rattle.protocol.specs.Elements.{refusalNumber}
 use borrow.Author.Needs.{needs}
-use Rattle.reading.proofs.numbers.refusal_number.Statement.{statement}
-use Rattle.reading.proofs.numbers.refusal_number.Tie as tie
+use Rattle.numbers.proofs.refusal_number.Statement.{statement}
+use Rattle.numbers.proofs.refusal_number.Tie as tie
 
 enum-told : tie.Need-enum-told
 enum-told c = search needs
