@@ -7,8 +7,6 @@ use crate::tables::{
     LINK, OBJECTS, PARTITIONS, RECORDS, UNLINK,
 };
 
-const NAMES: usize = 24;
-
 /// How many of each; a promised record is a link or create whose number no entry bears.
 pub struct Size {
     pub entries: usize,
@@ -72,7 +70,7 @@ struct Stock {
 
 /// Tables of this size, in order but for a size that is overfull.
 pub fn tables(random: &mut Random, size: &Size) -> Tables {
-    let mut stock = Stock::new(random, size.entries + RECORDS);
+    let mut stock = Stock::new(random, size);
     let highest = stock.numbers.iter().copied().max().unwrap_or(0);
     let partitions = 1 + random.below(usize::from(PARTITIONS));
     let mut tables = Tables::new(Head {
@@ -80,7 +78,6 @@ pub fn tables(random: &mut Random, size: &Size) -> Tables {
         partitions: partitions as u8,
         last: random.pick(&[highest, highest, u32::MAX]),
     });
-    stock.shuffle_numbers(random);
     stock.add_entries(random, &mut tables, size.entries);
     stock.add_back_pointers(random, &mut tables, size.back_pointers);
     stock.add_records(random, &mut tables, size);
@@ -88,25 +85,24 @@ pub fn tables(random: &mut Random, size: &Size) -> Tables {
 }
 
 impl Stock {
-    fn new(random: &mut Random, numbers: usize) -> Stock {
-        let highest_first = u32::MAX - numbers as u32 + 1;
-        let first = random.pick(&[1, 1, 200, 65_500, 16_777_200, highest_first]);
-        let mut names = Vec::with_capacity(NAMES);
-        while names.len() < NAMES {
+    fn new(random: &mut Random, size: &Size) -> Stock {
+        let kinds = 2 + size.entries.max(size.back_pointers) / 3;
+        let mut names = Vec::with_capacity(kinds);
+        while names.len() < kinds {
             let name = name(random);
             if !names.contains(&name) {
                 names.push(name);
             }
         }
+        let count = (size.entries + RECORDS) as u32;
+        let first = random.pick(&[1, 1, 200, 65_500, 16_777_200, u32::MAX - count + 1]);
+        let mut numbers: Vec<u32> = (0..count).map(|more| first + more).collect();
+        random.shuffle(&mut numbers);
         Stock {
             names,
             objects: [0, random.below(usize::from(OBJECTS)) as u8, OBJECTS - 1],
-            numbers: (0..numbers as u32).map(|more| first + more).collect(),
+            numbers,
         }
-    }
-
-    fn shuffle_numbers(&mut self, random: &mut Random) {
-        random.shuffle(&mut self.numbers);
     }
 
     fn number(&mut self) -> u32 {

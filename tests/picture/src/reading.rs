@@ -170,23 +170,21 @@ fn good_name(length: u8, bytes: &[u8; 8]) -> bool {
 
 fn in_order(tables: &Tables) -> bool {
     let entries = no_two(&tables.entries, |a, b| {
-        (a.directory == b.directory && a.name == b.name) || a.number == b.number
+        a.number == b.number || (a.name == b.name && a.directory == b.directory)
     });
     let records = no_two(&tables.records, |a, b| a.number == b.number);
     let back_pointers = no_two(&tables.back_pointers, |a, b| {
-        a.object == b.object
+        a.name == b.name
+            && a.object == b.object
             && a.parent == b.parent
             && a.directory == b.directory
-            && a.name == b.name
     });
     entries && records && back_pointers && tables.entries.len() + promised(tables) <= ENTRIES
 }
 
 fn no_two<T>(items: &[T], clash: impl Fn(&T, &T) -> bool) -> bool {
-    let pairs = items.iter().enumerate();
-    pairs
-        .into_iter()
-        .all(|(place, later)| !items[..place].iter().any(|item| clash(item, later)))
+    let alone = |(place, item)| !items[..place].iter().any(|earlier| clash(earlier, item));
+    items.iter().enumerate().all(alone)
 }
 
 /// Link and create records whose number no entry bears.

@@ -12,10 +12,11 @@ pub const LINK: u8 = 1;
 pub const CREATE: u8 = 2;
 pub const UNLINK: u8 = 3;
 
+/// The bytes come first here because two names are compared in this order, and mostly differ there.
 #[derive(Clone, Copy, Debug, PartialEq, Eq)]
 pub struct Name {
-    pub length: u8,
     pub bytes: [u8; 8],
+    pub length: u8,
 }
 
 #[derive(Clone, Copy, Debug)]

@@ -11,7 +11,7 @@ use picture::reading::{BYTES_AFTER, COUNT_WRONG, ENDS_EARLY, OUT_OF_ORDER};
 use picture::tables::{picture, Row};
 
 const SEED: u64 = 0x5eed_0001_2001_0129;
-const PICTURES: usize = 1_200_000;
+const PICTURES: usize = 1_000_000;
 const LEAST: usize = 10_000;
 
 fn rows(random: &mut Random) -> Vec<Row> {
@@ -67,7 +67,7 @@ fn a_million_pictures() {
 #[test]
 fn known_by_their_making() {
     let mut random = Random::new(SEED);
-    for _ in 0..20_000 {
+    for _ in 0..10_000 {
         let size = Size::overfull(&mut random);
         assert_eq!(
             agreed(&picture(&tables(&mut random, &size).rows())),
