@@ -51,13 +51,14 @@ fn damaged(random: &mut Random) -> Vec<u8> {
 
 #[test]
 fn a_million_pictures() {
+    println!("seed {SEED:#x}");
     let mut random = Random::new(SEED);
     let mut reached: BTreeMap<u32, usize> = BTreeMap::new();
     for _ in 0..PICTURES {
         let answer = agreed(&damaged(&mut random));
         *reached.entry(answer).or_default() += 1;
     }
-    println!("seed {SEED:#x}, {PICTURES} pictures, each number: {reached:?}");
+    println!("{PICTURES} pictures, each number: {reached:?}");
     let numbers: Vec<u32> = reached.keys().copied().collect();
     assert_eq!(numbers, [0, 16, 17, 18, 19, 20, 21]);
     assert!(reached.values().all(|times| *times >= LEAST));
