@@ -1,6 +1,10 @@
 //! Damages to a picture, each of which takes it across one line of the rules or to either side of
 //! it: some are done to its rows, with their fields, others to its bytes.
 
+// All of one list have one type, also those that leave the number of rows or bytes as it is.
+#![allow(clippy::ptr_arg)]
+
+use std::iter::repeat_n;
 use std::mem::discriminant;
 
 use crate::random::Random;
@@ -102,11 +106,8 @@ fn one_too_many(random: &mut Random, rows: &mut Vec<Row>) {
     };
     let count = rows.iter().filter(|row| discriminant(*row) == kind).count();
     let wanted = most + random.below(2);
-    let row = rows[place];
-    rows.splice(
-        place..place,
-        std::iter::repeat_n(row, wanted.saturating_sub(count)),
-    );
+    let more = repeat_n(rows[place], wanted.saturating_sub(count));
+    rows.splice(place..place, more);
     recount(random, rows);
 }
 
@@ -134,10 +135,8 @@ fn close_wrong(random: &mut Random, rows: &mut Vec<Row>) {
     };
     if random.once_in(4) {
         let place = random.below(rows.len());
-        rows.insert(
-            place,
-            Row::Close(random.pick(&[count, place.saturating_sub(1) as u16])),
-        );
+        let before = place.saturating_sub(1) as u16;
+        rows.insert(place, Row::Close(random.pick(&[count, before])));
     } else if let Some(Row::Close(last)) = rows.last_mut() {
         *last = count;
     }

@@ -24,21 +24,11 @@ fn rows(random: &mut Random) -> Vec<Row> {
     tables(random, &size).rows()
 }
 
-/// A picture with up to three damages, of its rows before those of its bytes.
+/// A picture with several damages, one or none, of its rows before those of its bytes.
 fn damaged(random: &mut Random) -> Vec<u8> {
     let mut rows = rows(random);
-    let (to_rows, to_bytes) = random.pick(&[
-        (0, 0),
-        (1, 0),
-        (1, 0),
-        (1, 0),
-        (2, 0),
-        (3, 0),
-        (0, 1),
-        (0, 1),
-        (1, 1),
-        (0, 2),
-    ]);
+    let to_rows = random.pick(&[0, 0, 1, 1, 1, 2, 3]);
+    let to_bytes = random.pick(&[0, 0, 0, 0, 1, 2]);
     for _ in 0..to_rows {
         random.pick(&ROW_DAMAGES)(random, &mut rows);
     }
@@ -70,15 +60,10 @@ fn known_by_their_making() {
     let mut random = Random::new(SEED);
     for _ in 0..10_000 {
         let size = Size::overfull(&mut random);
-        assert_eq!(
-            agreed(&picture(&tables(&mut random, &size).rows())),
-            OUT_OF_ORDER
-        );
-        let size = if random.once_in(10) {
-            Size::full(&mut random)
-        } else {
-            Size::any(&mut random)
-        };
+        let overfull = picture(&tables(&mut random, &size).rows());
+        assert_eq!(agreed(&overfull), OUT_OF_ORDER);
+        let sizes = [Size::any, Size::any, Size::any, Size::full];
+        let size = random.pick(&sizes)(&mut random);
         let mut whole = picture(&tables(&mut random, &size).rows());
         assert_eq!(agreed(&whole), 0);
         assert_eq!(agreed(&whole[..random.below(whole.len())]), ENDS_EARLY);
