@@ -6,7 +6,9 @@ use Rattle.names.specs.declared.Name.{Name}
 use Rattle.protocol.specs.Advance.{advance}
 use Rattle.protocol.specs.Answers.{check}
 use Rattle.protocol.specs.Ask.{ask, unlink}
-use Rattle.protocol.specs.Events.{Advancing, Creating, Event, Linking, Unlinking, apply, bare, tests}
+use Rattle.protocol.specs.Deliver.{deliver}
+use Rattle.protocol.specs.Events.{Advancing, Crashing, Creating, Cutting, Delivering, Event, Linking, Recovering, Unlinking, apply, bare, tests}
+use Rattle.protocol.specs.Faults.{crash, cut, recover}
 use Rattle.protocol.specs.Order.{inOrder}
 use Rattle.protocol.specs.declared.Kind.the-variants.{Create, Link}
 use Rattle.protocol.specs.declared.Refusal.the-variants.{OutOfOrder}
@@ -46,4 +48,20 @@ module _ (t : Tables) (a : Answered) where
     unfolding bare
     advance-called p n f h = call-passes (Advancing p n) refl f h
 
-pub ruleset calls = (link-called, create-called, call-fails, unlink-called, advance-called)
+    pub deliver-called : (s r : ℕ) → b ≡ true → a ≡ stored t (deliver (view t) s r) → a ≡ called t (Delivering s r)
+    unfolding bare
+    deliver-called s r f h = call-passes (Delivering s r) refl f h
+
+    pub cut-called : (p q : ℕ) → b ≡ true → a ≡ stored t (cut (view t) p q) → a ≡ called t (Cutting p q)
+    unfolding bare
+    cut-called p q f h = call-passes (Cutting p q) refl f h
+
+    pub crash-called : (p : ℕ) → b ≡ true → a ≡ stored t (crash (view t) p) → a ≡ called t (Crashing p)
+    unfolding bare
+    crash-called p f h = call-passes (Crashing p) refl f h
+
+    pub recover-called : (p : ℕ) → b ≡ true → a ≡ stored t (recover (view t) p) → a ≡ called t (Recovering p)
+    unfolding bare
+    recover-called p f h = call-passes (Recovering p) refl f h
+
+pub ruleset calls = (link-called, create-called, call-fails, unlink-called, advance-called, deliver-called, cut-called, crash-called, recover-called)

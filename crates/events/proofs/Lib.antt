@@ -5,3 +5,9 @@ pub mod Unlinks
 pub mod Advancing
 pub mod Advances
 pub mod Calls
+pub mod Verdicts
+pub mod Receives
+pub mod Delivers
+pub mod Mapped
+pub mod Loses
+pub mod Faulty

@@ -1,9 +1,9 @@
-// Events on the tables by value. Link, create, unlink and advance, at the end, answer any tables and any numbers exactly as
-// document 01's definition does, and give back the tables as they were where they refuse; what stands before them is theirs.
+// Events on the tables by value. Those at the end, by document 01's names, answer any tables and any numbers exactly as its
+// definition does, and give back the tables as they were where they refuse; what stands before them is theirs.
 ghost use mathlib.Core.Path.{_≡_};
 ghost use Prim.Native.Nat.{_<_};
 ghost use lib.Dec.{ltb};
-ghost use Rattle.protocol.specs.Events.{Advancing, Creating, Linking, Unlinking};
+ghost use Rattle.protocol.specs.Events.{Advancing, Crashing, Creating, Cutting, Delivering, Linking, Opening, Recovering, Unlinking};
 ghost use Rattle.events.specs.Called.{acceptedWith, called, refusedWith};
 use names::Name;
 use protocol::Answer;
@@ -13,9 +13,13 @@ use protocol::Reply;
 use tables::Tables;
 
 pub mod ask;
+pub mod faults;
+pub mod losses;
 pub mod next;
 pub mod queues;
+pub mod receive;
 pub mod step;
+pub mod verdict;
 
 // What a call answers, and the tables after it.
 pub struct Answered {
@@ -98,4 +102,51 @@ pub fn advance(t: Tables, p: u32, number: u32) -> Answered
         return refused(t, Refusal::OutOfOrder);
     }
     step::advance_in_order(t, p, number)
+}
+
+pub fn deliver(t: Tables, s: u32, r: u32) -> Answered
+    ensures { λ a. ⌜ a ≡ called t (Delivering s r) ⌝ }
+{
+    if order::in_order(t) {} else {
+        return refused(t, Refusal::OutOfOrder);
+    }
+    receive::deliver_in_order(t, s, r)
+}
+
+pub fn cut(t: Tables, a: u32, b: u32) -> Answered
+    ensures { λ r. ⌜ r ≡ called t (Cutting a b) ⌝ }
+{
+    if order::in_order(t) {} else {
+        return refused(t, Refusal::OutOfOrder);
+    }
+    faults::cut_in_order(t, a, b)
+}
+
+pub fn crash(t: Tables, p: u32) -> Answered
+    ensures { λ r. ⌜ r ≡ called t (Crashing p) ⌝ }
+{
+    if order::in_order(t) {} else {
+        return refused(t, Refusal::OutOfOrder);
+    }
+    faults::crash_in_order(t, p)
+}
+
+pub fn recover(t: Tables, p: u32) -> Answered
+    ensures { λ r. ⌜ r ≡ called t (Recovering p) ⌝ }
+{
+    if order::in_order(t) {} else {
+        return refused(t, Refusal::OutOfOrder);
+    }
+    faults::recover_in_order(t, p)
+}
+
+// There are no tables to test: those that are lent come back where the count is refused.
+pub fn open(t: Tables, k: u32) -> Answered
+    ensures { λ r. ⌜ r ≡ called t (Opening k) ⌝ }
+{
+    if faults::is_count(k) {} else {
+        return refused(t, Refusal::OutOfRange);
+    }
+    let opened = tables::fresh::fresh(k as usize);
+    accepted(opened, 0, Reply::None)
 }
