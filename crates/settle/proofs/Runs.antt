@@ -6,14 +6,13 @@ use native.Mathlib.Numerals.{add-one}
 use native.Mathlib.Omega.{arith}
 use Rattle.lists.proofs.Tests.{and-left, and-right, byTest, every-at, no-true}
 use Rattle.protocol.specs.Bounds.{largestNumber}
-use Rattle.protocol.specs.Elements.{isAccepted, isOne, isOther}
+use Rattle.protocol.specs.Elements.{isOne, isOther}
 use Rattle.protocol.specs.Events.{Event, bare}
 use Rattle.protocol.specs.Order.{inOrder}
 use Rattle.protocol.specs.Settle.{Found, candidates, firstAccepted, found, nothing, plusIf, rested, settleBy, tallied, zeroTally}
 use Rattle.protocol.specs.Tables.{Model}
 use Rattle.protocol.specs.declared.Refusal.the-variants.{Accepted, OutOfOrder}
 use Rattle.protocol.specs.declared.Reply.{Reply}
-use Rattle.protocol.specs.declared.Reply.the-variants.{None}
 use Rattle.protocol.specs.declared.Tally.{Tally}
 use Rattle.protocol.proofs.Kept.{keeps-order}
 use Rattle.protocol.proofs.Settling.{settle-refuses, settle-untested}
@@ -21,9 +20,8 @@ use Rattle.tables.specs.View.{Sized, pack, shaped, view}
 use Rattle.tables.specs.declared.Tables.{Tables}
 use Rattle.tables.proofs.Packs.{pack-view, view-pack}
 use Rattle.tables.proofs.Shapes.{pack-shaped}
-use Rattle.events.specs.Called.{Ready, acceptedWith, refusedWith}
-use Rattle.events.specs.declared.Answered.{Answered}
-use Rattle.settle.specs.Settled.{Counts, Settled, Step, reported, settled, settledOn, stepOf}
+use Rattle.events.specs.Called.{Ready}
+use Rattle.settle.specs.Settled.{Counts, Settled, Step, settled, settledOn, stepOf}
 
 -- ---- tables in order, stored
 
@@ -162,17 +160,6 @@ module _ (t : Tables) (n : ℕ) (y : Tally) (b : Bool) (e : b ≡ (shaped t && i
       byTest (shaped t)
       (λ s1. let o : inOrder (view t) ≡ false = (rw s1 at (sym e)) ∙ f in h ∙ rw (s1, settle-refuses n y (view t) o) refl)
       (λ s1. h ∙ rw s1 refl)
-
--- ---- what is reported
-
-module _ (s : Settled) (b : Bool) (e : b ≡ isAccepted (s .refusal)) (a : Answered) where
-  pub report-steps : b ≡ true → (y : Tally) → y ≡ s .tally → a ≡ acceptedWith (s .tables) (y .steps) None → a ≡ reported s
-  report-steps f y g h = h ∙ ap (λ (z : Tally). acceptedWith (s .tables) (z .steps) None) g ∙ rw (accepts-it f) refl
-
-  pub report-none : b ≡ false → a ≡ refusedWith (s .tables) (s .refusal) → a ≡ reported s
-  report-none f h = h ∙ rw (← e, f) refl
-
-pub ruleset reports = (report-steps, report-none)
 
 pub ruleset runs = (run-start, run-ready, run-counts, run-over, run-rests, run-turn)
 

@@ -1,6 +1,7 @@
 // A settling run: steps until none is accepted or n are taken, each brought into the tally.
 ghost use mathlib.Core.Path.{_≡_};
 ghost use Prim.Native.Nat.{_+_, _≤_};
+ghost use Rattle.lists.specs.Lists.{pick};
 ghost use Rattle.protocol.specs.Bounds.{largestNumber};
 ghost use Rattle.protocol.specs.Events.{bare};
 ghost use Rattle.protocol.specs.Settle.{plusIf, settleBy, tallied, zeroTally};
@@ -10,6 +11,7 @@ ghost use Rattle.settle.specs.Settled.{Counts, reported, settled, settle
 use crate::Settled;
 use crate::steps;
 use events::Answered;
+use protocol::Answer;
 use protocol::Refusal;
 use protocol::Reply;
 use protocol::Tally;
@@ -99,16 +101,34 @@ pub fn tally_of(s: Settled) -> Tally
     s.tally
 }
 
+// The steps of a run that was accepted, 0 of one that was refused.
+fn number_of(b: bool, steps: u32) -> u32
+    ensures { λ r. ⌜ r ≡ pick b steps 0 ⌝ }
+{
+    if b {
+        return steps;
+    }
+    0
+}
+
 pub fn report(s: Settled) -> Answered
     ensures { λ a. ⌜ a ≡ reported s ⌝ }
 {
     let refusal = s.refusal;
     let tally = s.tally;
     let tables = s.tables;
-    if numbers::accepted(refusal) {} else {
-        return events::refused(tables, refusal);
+    let accepted = numbers::accepted(refusal);
+    let number = number_of(accepted, tally.steps);
+    let reply = Reply::None;
+    let answer = Answer {
+        refusal: refusal,
+        number: number,
+        reply: reply,
+    };
+    Answered {
+        answer: answer,
+        tables: tables,
     }
-    events::accepted(tables, tally.steps, Reply::None)
 }
 
 // What was reported, beside the tally.

@@ -3,16 +3,15 @@ ghost use mathlib.Core.List.{[], _∷_};
 ghost use mathlib.Core.Path.{_≡_};
 ghost use Prim.Native.Nat.{_<_};
 ghost use Rattle.protocol.specs.Bounds.{maxPartitions};
-ghost use Rattle.protocol.specs.Deliver.{deliver};
 ghost use Rattle.protocol.specs.Events.{Advancing, Delivering, bare};
 ghost use Rattle.protocol.specs.Settle.{advances, candidates, deliveries, firstAccepted};
 ghost use Rattle.tables.specs.View.{view};
-ghost use Rattle.events.specs.Called.{Ready, stored};
+ghost use Rattle.events.specs.Called.{Ready};
 ghost use Rattle.settle.specs.Settled.{LogOf, advancesOf, deliveriesFrom, stayed, stepOf, tried};
 use crate::Step;
 use events::Answered;
+use events::receive;
 use events::step;
-use protocol::Refusal;
 use protocol::Reply;
 use tables::Records;
 use tables::Tables;
@@ -96,18 +95,11 @@ fn first_advance(t: Tables) -> Step
     stay(t)
 }
 
-fn deliver_there(t: Tables, s: usize, r: usize) -> Answered
-    requires { ⌜ Ready t × (s < t .count) × (s < maxPartitions) × (r < t .count) × (r < maxPartitions) ⌝ }
-    ensures { λ a. ⌜ a ≡ stored t (deliver (view t) s r) ⌝ }
-{
-    events::refused(t, Refusal::QueueEmpty)
-}
-
 fn try_delivery(t: Tables, s: usize, r: usize) -> Step
     requires { ⌜ Ready t × (s < t .count) × (s < maxPartitions) × (r < t .count) × (r < maxPartitions) ⌝ }
     ensures { λ a. ⌜ a ≡ stepOf t (firstAccepted bare (view t) (Delivering s r ∷ [])) ⌝ }
 {
-    let a = deliver_there(t, s, r);
+    let a = receive::deliver_there(t, s, r);
     tried(a)
 }
 
