@@ -6,7 +6,7 @@ use Prim.Native.Nat.{_<_, _≤_, ℕ}
 use native.Mathlib.Omega.{arith}
 use lib.Dec.{ltb}
 use lib.ListN.{length, length-map}
-use borrow.Author.Tests.{le-leb, lt-leb, lt-ltb, ltb-true}
+use borrow.Author.Tests.{le-leb, lt-leb, lt-ltb}
 use Rattle.lists.specs.Lists.{pick}
 use Rattle.protocol.specs.Order.{inOrder}
 use Rattle.protocol.specs.Tables.{inStage, isPartition}
@@ -30,6 +30,7 @@ use Rattle.writing.specs.Written.{Reported, after, refusedFor, writtenFr
 use Rattle.lists.proofs.Tests.{byTest}
 use Rattle.tables.proofs.Packs.{shaped-all}
 use Rattle.tables.proofs.Views.{ranged}
+use Rattle.events.proofs.Advances.{now-four, now-there}
 use Rattle.events.proofs.Ways.{now-ready, read-four, read-view, ready-view}
 use Rattle.picture.proofs.Lengths.{picture-length, sized}
 use Rattle.writing.proofs.Pictures.{backpointer-count, entry-count, record-count}
@@ -90,9 +91,6 @@ pub ruleset writes = (read-ranged, write-short, write-fits)
 
 -- ---- the refusals that come first
 
-pub now-there : (t : Tables) (p : ℕ) (c : Bool) → c ≡ ltb p (t .count) → c ≡ true → p < t .count
-now-there t p c g y = ltb-true _ _ (sym g ∙ y)
-
 module _ (t : Tables) (p : ℕ) (l : List ℕ) (a : Reported) (b : Bool) (e : b ≡ (shaped t && inOrder (view t))) where
   -- the two tests of the order are one
   joined : writtenFrom t p l ≡ pick b (pick (isPartition (view t) p) (writtenInto (write first (pictureOf (view t) p)) l) (unwritten OutOfRange l)) (unwritten OutOfOrder l)
@@ -114,7 +112,7 @@ module _ (t : Tables) (p : ℕ) (l : List ℕ) (a : Reported) (b : Bool) (e : b 
     pub write-placed : (m : List ℕ) → c ≡ true → after a m ≡ writtenInto (write first (pictureOf (view t) p)) l → after a m ≡ writtenFrom t p l
     write-placed m y w = w ∙ sym (joined ∙ rw (f, placed, y) refl)
 
-pub ruleset writings = (write-disordered, now-ready, now-there, read-four, write-unplaced, write-placed)
+pub ruleset writings = (write-disordered, now-ready, now-there, now-four, write-unplaced, write-placed)
 
 -- ---- one outcome: a report and a room are told by what they are together
 
