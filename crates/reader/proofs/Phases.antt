@@ -4,9 +4,9 @@ use mathlib.Core.List.{List, [], _++_, _∷_}
 use mathlib.Core.Path.{_∙_, _≡_, ap, refl, sym}
 use Prim.Native.Nat.{_+_, _<_, _≤_, suc, zero, ℕ}
 use native.Mathlib.Omega.{arith}
-use lib.Dec.{eqb}
+use lib.Dec.{eqb, leb}
 use lib.ListN.{drop, length}
-use borrow.Author.Tests.{eqb-true}
+use borrow.Author.Tests.{eqb-true, le-leb, lt-leb}
 use Rattle.lists.specs.Lists.{pick}
 use Rattle.protocol.specs.declared.Refusal.the-variants.{CountWrong, FieldOutOfRange}
 use Rattle.codec.specs.Codec.{Got, bad, got, none}
@@ -57,35 +57,7 @@ other-mark v w (a ∷ b ∷ r) d m =
     let q : b ≡ w .second = eqb-true b (w .second) (and-right (eqb a (w .first)) _ m) in
     rw (p, q) d
 
--- ---- the walk W through the records xs of one kind, with the bytes bs still before it; K goes on behind them
-
-module _ {A : Type 0} (w : Row A) (test : A → Bool) (cap rest : ℕ) (Good : List A → List ℕ → Type 0) (W : ℕ → List A → List ℕ → Read Picture) (K : List A → List ℕ → Read Picture) where
-  pub record Phase : Type 0 where
-    pub some : 1 ≤ rest
-    pub stop : (n : ℕ) (xs : List A) (bs : List ℕ) → Good xs bs → marked w bs ≡ false → rest ≤ n → W n xs bs ≡ K xs bs
-    pub full : (n : ℕ) (xs : List A) (bs : List ℕ) → Good xs bs → marked w bs ≡ true → cap ≤ length xs → W (suc n) xs bs ≡ next (body w FieldOutOfRange test bs) (λ x r. fail FieldOutOfRange)
-    pub turn : (n : ℕ) (xs : List A) (bs : List ℕ) → Good xs bs → marked w bs ≡ true → length xs < cap → W (suc n) xs bs ≡ next (body w FieldOutOfRange test bs) (λ x r. W n (xs ++ x ∷ []) r)
-    pub grow : (xs : List A) (bs : List ℕ) (x : A) (r : List ℕ) → Good xs bs → marked w bs ≡ true → length xs < cap → body w FieldOutOfRange test bs ≡ more x r → Good (xs ++ x ∷ []) r
-
-  module _ (p : Phase) where
-    pub phase : (k n : ℕ) (xs : List A) (bs : List ℕ) → Good xs bs → length xs + k ≡ cap → k + rest ≤ n → W n xs bs ≡ next (many w (λ earlier. test) k xs bs) K
-    unfolding many next
-    phase zero zero xs bs g e l = absurd (omega (arith, p .some))
-    phase zero (suc n) xs bs g e l =
-        byTest (marked w bs)
-        (λ m. rw m (p .full n xs bs g m (omega arith) ∙ body-never w test bs ∙ sym (next-next (body w FieldOutOfRange (λ x. false) bs) (λ x r. fail FieldOutOfRange) K)))
-        (λ m. rw m (p .stop (suc n) xs bs g m (omega arith)))
-    phase (suc k) zero xs bs g e l = absurd (omega arith)
-    phase (suc k) (suc n) xs bs g e l =
-        byTest (marked w bs)
-        (λ m.
-        rw m
-        (p .turn n xs bs g m (omega arith)
-        ∙ next-same (body w FieldOutOfRange test bs) _ _ (λ x r b. phase k n (xs ++ x ∷ []) r (p .grow xs bs x r g m (omega arith) b) (rw (snoc-length xs x) (omega arith)) (omega arith))
-        ∙ sym (next-next (body w FieldOutOfRange test bs) (λ x r. many w (λ earlier. test) k (xs ++ x ∷ []) r) K)))
-        (λ m. rw m (p .stop (suc n) xs bs g m (omega arith)))
-
--- ---- one step of it, where the reader hands out what a body says
+-- ---- one step, where the reader hands out what a body says
 
 module _ {A : Type 0} (hand : A → Handed) (s : List ℕ) (at : ℕ) (full : Bool) (R : Read A) (e : handedAt s at ≡ hands hand at full R) (n : ℕ) (y : Picture) where
   pub step-full : full ≡ true → together y (walk (suc n) s at) ≡ next R (λ x r. fail FieldOutOfRange)
@@ -105,7 +77,7 @@ module _ {A : Type 0} (hand : A → Handed) (s : List ℕ) (at : ℕ) (full : Bo
       over (fail why) = refl
       over (more x r) = j x (λ z. together z (walk n s (hand x .next))) ∙ ap (λ (i : ℕ). together (F x) (walk n s i)) (p x)
 
--- ---- its last step, at the close
+-- ---- the last step, at the close
 
 ended-none : (n : ℕ) (q : List ℕ) (m : ℕ) (r : List ℕ) → ended n q ≡ more m r → r ≡ []
 unfolding ended
@@ -125,3 +97,43 @@ step-close s at k bs n y e = rw e (over (closing k bs) (closing-none k bs))
     over : (Q : Read ℕ) → ((m : ℕ) (q : List ℕ) → Q ≡ more m q → q ≡ []) → join (handsClose at Q .part) (handsClose at Q) y (λ z. together z (walk n s (handsClose at Q .next))) ≡ next Q (λ m q. more y q)
     over (fail why) f = refl
     over (more m q) f = ap (more y) (sym (f m q refl))
+
+-- ---- the walk through the records xs of one kind: P is the picture with them, `at` the place behind them, bs are the bytes there,
+-- and K goes on behind the last
+
+module _ {A : Type 0} (w : Row A) (test : A → Bool) (cap rest : ℕ) (s : List ℕ) (P : List A → Picture) (at : List A → ℕ) (hand : ℕ → A → Handed) (K : List A → List ℕ → Read Picture) (Good : List A → List ℕ → Type 0) where
+  abbrev W : ℕ → List A → Read Picture
+  W n xs = together (P xs) (walk n s (at xs))
+
+  pub record Phase : Type 0 where
+    pub some : 1 ≤ rest
+    pub handed : (xs : List A) (bs : List ℕ) → Good xs bs → marked w bs ≡ true → handedAt s (at xs) ≡ hands (hand (at xs)) (at xs) (leb cap (length xs)) (body w FieldOutOfRange test bs)
+    pub joins : (xs : List A) (x : A) (on : Picture → Read Picture) → join (hand (at xs) x .part) (hand (at xs) x) (P xs) on ≡ on (P (xs ++ x ∷ []))
+    pub leads : (xs : List A) (x : A) → hand (at xs) x .next ≡ at (xs ++ x ∷ [])
+    pub grows : (xs : List A) (bs : List ℕ) (x : A) (r : List ℕ) → Good xs bs → marked w bs ≡ true → length xs < cap → body w FieldOutOfRange test bs ≡ more x r → Good (xs ++ x ∷ []) r
+    pub stops : (n : ℕ) (xs : List A) (bs : List ℕ) → Good xs bs → marked w bs ≡ false → rest ≤ n → W n xs ≡ K xs bs
+
+  module _ (p : Phase) where
+    full : (n : ℕ) (xs : List A) (bs : List ℕ) → Good xs bs → marked w bs ≡ true → cap ≤ length xs → W (suc n) xs ≡ next (body w FieldOutOfRange test bs) (λ x r. fail FieldOutOfRange)
+    full n xs bs g m l = step-full (hand (at xs)) s (at xs) (leb cap (length xs)) _ (p .handed xs bs g m) n (P xs) (le-leb _ _ l)
+
+    turn : (n : ℕ) (xs : List A) (bs : List ℕ) → Good xs bs → marked w bs ≡ true → length xs < cap → W (suc n) xs ≡ next (body w FieldOutOfRange test bs) (λ x r. W n (xs ++ x ∷ []))
+    turn n xs bs g m l =
+        step-turn (hand (at xs)) s (at xs) (leb cap (length xs)) _ (p .handed xs bs g m) n (P xs) (lt-leb _ _ l) (λ x. P (xs ++ x ∷ [])) (λ x. at (xs ++ x ∷ [])) (p .joins xs) (p .leads xs)
+
+    pub phase : (k n : ℕ) (xs : List A) (bs : List ℕ) → Good xs bs → length xs + k ≡ cap → k + rest ≤ n → W n xs ≡ next (many w (λ earlier. test) k xs bs) K
+    unfolding many next
+    phase zero zero xs bs g e l = absurd (omega (arith, p .some))
+    phase zero (suc n) xs bs g e l =
+        byTest (marked w bs)
+        (λ m. rw m (full n xs bs g m (omega arith) ∙ body-never w test bs ∙ sym (next-next (body w FieldOutOfRange (λ x. false) bs) (λ x r. fail FieldOutOfRange) K)))
+        (λ m. rw m (p .stops (suc n) xs bs g m (omega arith)))
+    phase (suc k) zero xs bs g e l = absurd (omega arith)
+    phase (suc k) (suc n) xs bs g e l =
+        byTest (marked w bs)
+        (λ m.
+        rw m
+        (turn n xs bs g m (omega arith)
+        ∙ next-same (body w FieldOutOfRange test bs) _ _ (λ x r b. phase k n (xs ++ x ∷ []) r (p .grows xs bs x r g m (omega arith) b) (rw (snoc-length xs x) (omega arith)) (omega arith))
+        ∙ sym (next-next (body w FieldOutOfRange test bs) (λ x r. many w (λ earlier. test) k (xs ++ x ∷ []) r) K)))
+        (λ m. rw m (p .stops (suc n) xs bs g m (omega arith)))

@@ -1,12 +1,11 @@
 -- The reader run to its end tells of any bytes what `read` does: through the entries, the back-pointers, the records, to the close.
-use mathlib.Core.Bool.{_&&_, and-false, and-true, false, true}
-use mathlib.Core.List.{List, [], _++_, _∷_, append-nil}
+use mathlib.Core.Bool.{Bool, _&&_, and-false, and-true, false, true}
+use mathlib.Core.List.{List, [], _++_, append-nil}
 use mathlib.Core.Path.{_∙_, _≡_, ap, refl, sym}
 use Prim.Native.Nat.{_+_, _≤_, suc, zero, ℕ}
 use native.Mathlib.Omega.{arith}
 use lib.Dec.{eqb, leb}
 use lib.ListN.{length}
-use borrow.Author.Tests.{le-leb, lt-leb}
 use Rattle.lists.specs.Lists.{all}
 use Rattle.protocol.specs.Bounds.{maxBackpointers, maxEntries, maxRecords}
 use Rattle.protocol.specs.declared.Backpointer.{Backpointer}
@@ -17,16 +16,27 @@ use Rattle.protocol.specs.declared.Refusal.the-variants.{FieldOutOfRange}
 use Rattle.codec.specs.Codec.{isByte}
 use Rattle.picture.specs.Answers.{noPicture}
 use Rattle.picture.specs.Picture.{BP, EN, HD, Items, LG, Picture, backpointerFits, backpointerSection, closing, entryFits, entrySection, first, headFits, pictureFrom, read, readTables, recordFits, recordSection, sections}
-use Rattle.picture.specs.Rows.{Contents, Read, Section, Table, _before_, body, close, counted, fail, fits, many, marked, more, next, one, putRow, putRows, putTable, readTable}
+use Rattle.picture.specs.Rows.{Contents, Read, Row, Section, Table, _before_, body, close, counted, fail, fits, many, marked, more, next, one, putRow, putRows, putTable, readTable}
 use Rattle.picture.specs.Standing.{handedAt, handedNext, handedUnder, hands, handsBackpointer, handsClose, handsEntry, handsHead, handsRecord, stays}
+use Rattle.picture.specs.declared.Handed.{Handed}
 use Rattle.picture.specs.declared.Head.{Head}
 use Rattle.reader.specs.Walk.{WalkReads, join, together, walk}
 use Rattle.lists.proofs.Keep.{snoc-length}
 use Rattle.picture.proofs.Forms.{lawful-HD}
 use Rattle.picture.proofs.Lengths.{head-length}
 use Rattle.picture.proofs.Rounds.{one-only}
-use Rattle.reader.proofs.Phases.{Phase, next-next, next-same, other-mark, phase, step-close, step-full, step-turn}
+use Rattle.reader.proofs.Phases.{Phase, next-next, next-same, other-mark, phase, step-close}
 use Rattle.reader.proofs.Places.{Passed, backpointer-passed, entry-passed, here, not-none, place, record-passed}
+
+-- how many steps are enough from the records on, from the back-pointers on, from the entries on
+abbrev fromRecords : ℕ
+fromRecords = maxRecords + 1
+
+abbrev fromBackpointers : ℕ
+fromBackpointers = maxBackpointers + fromRecords
+
+abbrev fromEntries : ℕ
+fromEntries = maxEntries + fromBackpointers
 
 abbrev withEntries : List Entry → Items first
 withEntries es = (es, ([], ([], tt)))
@@ -41,6 +51,14 @@ module _ (s : List ℕ) (bytes : all isByte s ≡ true) (h : Head) (tail : List 
 
   abbrev atClose : Items first → List ℕ → Read Picture
   atClose c bs = next (closing (counted (sections first) c) bs) (λ n q. more (pictureFrom first h c) q)
+
+  -- one kind of record after another: c are the records passed, and one kind of them still grows
+  module _ {A : Type 0} (w : Row A) (test : A → Bool) (cap rest : ℕ) (c : List A → Items first) (hand : ℕ → A → Handed) (K : List A → List ℕ → Read Picture) (Good : List A → List ℕ → Type 0) where
+    abbrev Kind : Type 0
+    Kind = Phase w test cap rest s (λ xs. pictureFrom first h (c xs)) (λ xs. place (c xs)) hand K Good
+
+    through : Kind → (n : ℕ) (bs : List ℕ) → Good [] bs → cap + rest ≤ n → from n (c []) ≡ next (many w (λ earlier. test) cap [] bs) K
+    through p n bs g l = phase w test cap rest s (λ xs. pictureFrom first h (c xs)) (λ xs. place (c xs)) hand K Good p cap n [] bs g (omega arith) l
 
   -- ---- the records
 
@@ -72,25 +90,21 @@ module _ (s : List ℕ) (bytes : all isByte s ≡ true) (h : Head) (tail : List 
         step-close s (place (withRecords rs)) (length es + length ks + length rs) bs n _ (close-handed rs bs g m)
         ∙ ap (λ (k : ℕ). next (closing k bs) (λ i q. more (pictureFrom first h (withRecords rs)) q)) e
 
-    record-phase : Phase (LG first) (recordFits h) maxRecords 1 Records (λ n rs bs. from n (withRecords rs)) (λ rs bs. atClose (withRecords rs) bs)
+    record-phase : Kind (LG first) (recordFits h) maxRecords 1 withRecords handsRecord (λ rs bs. atClose (withRecords rs) bs) Records
     unfolding join
     record-phase =
         record {
           some = omega arith;
-          stop = closes;
-          full = λ n rs bs g m l. step-full (handsRecord (place (withRecords rs))) s (place (withRecords rs)) (leb maxRecords (length rs)) _ (record-handed rs bs g m) n _ (le-leb _ _ l);
-          turn = λ n rs bs g m l.
-              step-turn (handsRecord (place (withRecords rs))) s (place (withRecords rs)) (leb maxRecords (length rs)) _ (record-handed rs bs g m) n _ (lt-leb _ _ l)
-              (λ x. pictureFrom first h (withRecords (rs ++ x ∷ [])))
-              (λ x. place (withRecords (rs ++ x ∷ [])))
-              (λ x on. refl)
-              (λ x. omega (arith, snoc-length rs x));
-          grow = λ rs bs x r g m l b.
+          handed = record-handed;
+          joins = λ rs x on. refl;
+          leads = λ rs x. omega (arith, snoc-length rs x);
+          grows = λ rs bs x r g m l b.
               record {
                 passed = record-passed s bytes h tail headed es ks rs bs r x (g .passed) m l b;
                 noEntry = rw (not-none (eqb (length ks) 0) rs x) (and-false (marked (EN first) r));
                 noBackpointer = not-none (marked (BP first) r) rs x;
               };
+          stops = closes;
         }
 
   -- ---- the back-pointers, and then the records
@@ -107,33 +121,27 @@ module _ (s : List ℕ) (bytes : all isByte s ≡ true) (h : Head) (tail : List 
     abbrev onRecords : List Backpointer → List ℕ → Read Picture
     onRecords ks bs = next (many (LG first) (λ earlier. recordFits h) maxRecords [] bs) (λ rs r. atClose (withRecords es ks rs) r)
 
-    to-records : (n : ℕ) (ks : List Backpointer) (bs : List ℕ) → Backpointers ks bs → marked (BP first) bs ≡ false → 17 ≤ n → from n (withBackpointers ks) ≡ onRecords ks bs
-    to-records n ks bs g m l =
-        phase (LG first) (recordFits h) maxRecords 1 (Records es ks) (λ i rs r. from i (withRecords es ks rs)) (λ rs r. atClose (withRecords es ks rs) r) (record-phase es ks) maxRecords n [] bs
+    to-records : (n : ℕ) (ks : List Backpointer) (bs : List ℕ) → Backpointers ks bs → marked (BP first) bs ≡ false → fromRecords ≤ n → from n (withBackpointers ks) ≡ onRecords ks bs
+    to-records n ks bs g m =
+        through (LG first) (recordFits h) maxRecords 1 (withRecords es ks) handsRecord (λ rs r. atClose (withRecords es ks rs) r) (Records es ks) (record-phase es ks) n bs
         (record { passed = g .passed; noEntry = rw (and-true (eqb (length ks) 0)) (g .noEntry); noBackpointer = rw m refl })
-        (omega arith)
-        (omega arith)
 
     backpointer-handed : (ks : List Backpointer) (bs : List ℕ) → Backpointers ks bs → marked (BP first) bs ≡ true
         → handedAt s (place (withBackpointers ks)) ≡ hands (handsBackpointer (place (withBackpointers ks))) (place (withBackpointers ks)) (leb maxBackpointers (length ks)) (body (BP first) FieldOutOfRange (backpointerFits h) bs)
     unfolding handedNext EN BP
     backpointer-handed ks bs g m = here s bytes h tail headed (withBackpointers ks) bs (g .passed) ∙ rw (other-mark (EN first) (BP first) bs refl m, m) refl
 
-    backpointer-phase : Phase (BP first) (backpointerFits h) maxBackpointers 17 Backpointers (λ n ks bs. from n (withBackpointers ks)) onRecords
+    backpointer-phase : Kind (BP first) (backpointerFits h) maxBackpointers fromRecords withBackpointers handsBackpointer onRecords Backpointers
     unfolding join
     backpointer-phase =
         record {
           some = omega arith;
-          stop = to-records;
-          full = λ n ks bs g m l. step-full (handsBackpointer (place (withBackpointers ks))) s (place (withBackpointers ks)) (leb maxBackpointers (length ks)) _ (backpointer-handed ks bs g m) n _ (le-leb _ _ l);
-          turn = λ n ks bs g m l.
-              step-turn (handsBackpointer (place (withBackpointers ks))) s (place (withBackpointers ks)) (leb maxBackpointers (length ks)) _ (backpointer-handed ks bs g m) n _ (lt-leb _ _ l)
-              (λ x. pictureFrom first h (withBackpointers (ks ++ x ∷ [])))
-              (λ x. place (withBackpointers (ks ++ x ∷ [])))
-              (λ x on. refl)
-              (λ x. omega (arith, snoc-length ks x));
-          grow = λ ks bs x r g m l b.
+          handed = backpointer-handed;
+          joins = λ ks x on. refl;
+          leads = λ ks x. omega (arith, snoc-length ks x);
+          grows = λ ks bs x r g m l b.
               record { passed = backpointer-passed s bytes h tail headed es ks bs r x (g .passed) m l b; noEntry = not-none (marked (EN first) r) ks x };
+          stops = to-records;
         }
 
   -- ---- the entries, and then the back-pointers
@@ -141,32 +149,25 @@ module _ (s : List ℕ) (bytes : all isByte s ≡ true) (h : Head) (tail : List 
   abbrev onBackpointers : List Entry → List ℕ → Read Picture
   onBackpointers es bs = next (many (BP first) (λ earlier. backpointerFits h) maxBackpointers [] bs) (onRecords es)
 
-  to-backpointers : (n : ℕ) (es : List Entry) (bs : List ℕ) → Behind (withEntries es) bs → marked (EN first) bs ≡ false → 81 ≤ n → from n (withEntries es) ≡ onBackpointers es bs
-  to-backpointers n es bs g m l =
-      phase (BP first) (backpointerFits h) maxBackpointers 17 (Backpointers es) (λ i ks r. from i (withBackpointers es ks)) (onRecords es) (backpointer-phase es) maxBackpointers n [] bs
-      (record { passed = g; noEntry = rw m refl })
-      (omega arith)
-      (omega arith)
+  to-backpointers : (n : ℕ) (es : List Entry) (bs : List ℕ) → Behind (withEntries es) bs → marked (EN first) bs ≡ false → fromBackpointers ≤ n → from n (withEntries es) ≡ onBackpointers es bs
+  to-backpointers n es bs g m =
+      through (BP first) (backpointerFits h) maxBackpointers fromRecords (withBackpointers es) handsBackpointer (onRecords es) (Backpointers es) (backpointer-phase es) n bs (record { passed = g; noEntry = rw m refl })
 
   entry-handed : (es : List Entry) (bs : List ℕ) → Behind (withEntries es) bs → marked (EN first) bs ≡ true
       → handedAt s (place (withEntries es)) ≡ hands (handsEntry (place (withEntries es))) (place (withEntries es)) (leb maxEntries (length es)) (body (EN first) FieldOutOfRange (entryFits h) bs)
   unfolding handedNext
   entry-handed es bs g m = here s bytes h tail headed (withEntries es) bs g ∙ rw m refl
 
-  entry-phase : Phase (EN first) (entryFits h) maxEntries 81 (λ es bs. Behind (withEntries es) bs) (λ n es bs. from n (withEntries es)) onBackpointers
+  entry-phase : Kind (EN first) (entryFits h) maxEntries fromBackpointers withEntries handsEntry onBackpointers (λ es bs. Behind (withEntries es) bs)
   unfolding join
   entry-phase =
       record {
         some = omega arith;
-        stop = to-backpointers;
-        full = λ n es bs g m l. step-full (handsEntry (place (withEntries es))) s (place (withEntries es)) (leb maxEntries (length es)) _ (entry-handed es bs g m) n _ (le-leb _ _ l);
-        turn = λ n es bs g m l.
-            step-turn (handsEntry (place (withEntries es))) s (place (withEntries es)) (leb maxEntries (length es)) _ (entry-handed es bs g m) n _ (lt-leb _ _ l)
-            (λ x. pictureFrom first h (withEntries (es ++ x ∷ [])))
-            (λ x. place (withEntries (es ++ x ∷ [])))
-            (λ x on. refl)
-            (λ x. omega (arith, snoc-length es x));
-        grow = λ es bs x r g m l b. entry-passed s bytes h tail headed es bs r x g m l b;
+        handed = entry-handed;
+        joins = λ es x on. refl;
+        leads = λ es x. omega (arith, snoc-length es x);
+        grows = λ es bs x r. entry-passed s bytes h tail headed es bs r x;
+        stops = to-backpointers;
       }
 
   -- ---- behind the header
@@ -183,9 +184,8 @@ module _ (s : List ℕ) (bytes : all isByte s ≡ true) (h : Head) (tail : List 
         records = refl;
       }
 
-  pub behind-header : (n : ℕ) → 145 ≤ n → from n (withEntries []) ≡ next (many (EN first) (λ earlier. entryFits h) maxEntries [] tail) onBackpointers
-  behind-header n l =
-      phase (EN first) (entryFits h) maxEntries 81 (λ es bs. Behind (withEntries es) bs) (λ i es bs. from i (withEntries es)) onBackpointers entry-phase maxEntries n [] tail begun (omega arith) (omega arith)
+  pub behind-header : (n : ℕ) → fromEntries ≤ n → from n (withEntries []) ≡ next (many (EN first) (λ earlier. entryFits h) maxEntries [] tail) onBackpointers
+  behind-header n = through (EN first) (entryFits h) maxEntries fromBackpointers withEntries handsEntry onBackpointers (λ es bs. Behind (withEntries es) bs) entry-phase n tail begun
 
 -- ---- `read`, section by section
 

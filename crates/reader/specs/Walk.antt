@@ -2,10 +2,11 @@
 use mathlib.Core.Bool.{true}
 use mathlib.Core.List.{List, [], _∷_, _++_}
 use mathlib.Core.Path.{_≡_}
-use Prim.Native.Nat.{ℕ, suc, zero, _≤_}
+use Prim.Native.Nat.{ℕ, suc, zero, _+_, _≤_}
 use Rattle.lists.specs.Lists.{all}
 use Rattle.codec.specs.Codec.{isByte}
 use Rattle.protocol.specs.declared.Refusal.the-variants.{EndsEarly}
+use Rattle.protocol.specs.Bounds.{maxBackpointers, maxEntries, maxRecords}
 use Rattle.protocol.specs.Tables.{withBackpointers, withEntries, withRecords}
 use Rattle.picture.specs.declared.Handed.{Handed}
 use Rattle.picture.specs.declared.Part.{Part}
@@ -15,7 +16,7 @@ use Rattle.picture.specs.Picture.{Picture, first, pictureFrom, read}
 use Rattle.picture.specs.Answers.{noPicture}
 use Rattle.picture.specs.Standing.{handedAt}
 
--- what it hands out in n steps from a place on, each from the place where the one before led
+-- what `take` hands out from a place on, called n times: each from the place to which the one before led
 unfoldable pub walk : ℕ → List ℕ → ℕ → List Handed
 walk zero s at = []
 walk (suc n) s at = handedAt s at ∷ walk n s (handedAt s at .next)
@@ -34,9 +35,9 @@ unfoldable pub together : Picture → List Handed → Read Picture
 together x [] = fail EndsEarly
 together x (g ∷ gs) = join (g .part) g x (λ y. together y gs)
 
--- a header, 64 entries, 64 back-pointers, 16 records and the close
+-- a header, as many entries, back-pointers and records as there may be, and the close
 abbrev pub mostSteps : ℕ
-mostSteps = 146
+mostSteps = 1 + maxEntries + maxBackpointers + maxRecords + 1
 
 -- run to its end, the reader tells of any bytes what `read` does: the same picture, or the same refusal
 abbrev pub WalkReads : Type 0
