@@ -15,11 +15,11 @@ use events::Answered;
 use events::accepted;
 use events::is_there;
 use events::refused;
+use numbers::refusal_number;
 use picture::Head;
 use protocol::Refusal;
 use protocol::Reply;
 use reading::read_picture;
-use reading::refusal_number;
 use tables::Partition;
 use tables::Tables;
 
