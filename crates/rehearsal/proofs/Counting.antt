@@ -1,5 +1,5 @@
 -- What `S` and `Q` count, by the stored counts: a total is a sum over places, and the square has each queue's length.
-use mathlib.Core.List.{List, [], _++_, _∷_, map}
+use mathlib.Core.List.{List, [], _∷_}
 use mathlib.Core.Path.{_∙_, _≡_, ap, refl, sym}
 use Prim.Native.Nat.{_*_, _+_, _<_, _≤_, min, suc, zero, ℕ}
 use native.Mathlib.Numerals.{add-one}
@@ -19,7 +19,7 @@ use Rattle.tables.specs.declared.Partition.{Partition}
 use Rattle.tables.specs.declared.Tables.{Tables}
 use Rattle.tables.proofs.Views.{partition-there, queues-view}
 use Rattle.rehearsal.specs.Answers.{row, rows, squareOf}
-use Rattle.rehearsal.specs.Counts.{Small, Sums, lengthAt, lengths, lengthsFrom, plusPartition, sumsOf}
+use Rattle.rehearsal.specs.Counts.{Small, Sums, lengthAt, lengths, lengthsFrom, noSums, partitionSums, plusPartition, sumsOf}
 
 -- ---- counts of arrays
 
@@ -69,7 +69,7 @@ module _ (t : Tables) where
   pub record Summing (x : Sums) (i : ℕ) : Type 0 where
     pub so-far : x ≡ record { entries = sum i entriesAt; backpointers = sum i backpointersAt; records = sum i recordsAt; messages = 0 }
 
-  pub sum-start : (x : Sums) → x ≡ record { entries = 0; backpointers = 0; records = 0; messages = 0 } → Summing x 0
+  pub sum-start : (x : Sums) → x ≡ noSums → Summing x 0
   unfolding sum
   sum-start x e = record { so-far = e }
 
@@ -95,7 +95,7 @@ module _ (t : Tables) where
         ∙ total-sum f noPart none (view t .partitions) (min (t .count) maxPartitions) (omega arith)
 
   pub sum-done : (x : Sums) (i side : ℕ) → Summing x i → Sized t → i ≤ side → side ≤ i → side ≡ min (t .count) maxPartitions
-      → x ≡ sumsOf (record { entries = totals (view t) .entries; backpointers = totals (view t) .backpointers; records = totals (view t) .records; messages = 0 })
+      → x ≡ partitionSums (view t)
   unfolding noPart
   sum-done x i side w z h g e =
       let q : i ≡ min (t .count) maxPartitions = omega arith in
@@ -129,12 +129,12 @@ module _ (t : Tables) where
 
 pub ruleset summing = (sum-start, sum-small, sum-turn, sum-done)
 
-pub totals-are : (m : Model) (x : Sums) (n : ℕ)
-    → x ≡ sumsOf (record { entries = totals m .entries; backpointers = totals m .backpointers; records = totals m .records; messages = 0 }) → n ≡ totals m .messages
+pub ruleset mailing = (mail-start, mail-turn, mail-done)
+
+-- `totals_of`
+pub totals-are : (m : Model) (x : Sums) (n : ℕ) → x ≡ partitionSums m → n ≡ totals m .messages
     → record { entries = x .entries; backpointers = x .backpointers; records = x .records; messages = n } ≡ sumsOf (totals m)
 totals-are m x n ex en = rw (ex, en) refl
-
-pub ruleset mailing = (mail-start, mail-turn, mail-done)
 
 -- ---- the square
 

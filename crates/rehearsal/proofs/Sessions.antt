@@ -1,5 +1,5 @@
 -- A session over the stored tables answers as the rehearsal does over the model, and stays in order.
-use mathlib.Core.Bool.{Bool, _&&_, _||_, false, true}
+use mathlib.Core.Bool.{Bool, _&&_, false, true}
 use mathlib.Core.List.{List, [], _∷_}
 use mathlib.Core.Path.{_∙_, _≡_, ap, refl, subst, sym}
 use Prim.Native.Nat.{min, ℕ}
@@ -10,7 +10,7 @@ use Rattle.lists.specs.Lists.{pick}
 use Rattle.lists.proofs.Tests.{and-left, and-right, byTest, every-at, no-true}
 use Rattle.protocol.specs.Answers.{Outcome, accepted, check}
 use Rattle.protocol.specs.Bounds.{maxPartitions}
-use Rattle.protocol.specs.Elements.{isAccepted, refusalNumber}
+use Rattle.protocol.specs.Elements.{refusalNumber}
 use Rattle.protocol.specs.Events.{Advancing, Crashing, Creating, Cutting, Delivering, Event, Linking, Opening, Recovering, Unlinking, apply, bare}
 use Rattle.protocol.specs.Faults.{openTables}
 use Rattle.protocol.specs.Order.{inOrder}
@@ -31,11 +31,11 @@ use Rattle.events.specs.Called.{Ready, called, stored}
 use Rattle.events.specs.declared.Answered.{Answered}
 use Rattle.settle.specs.Settled.{settled, settledOn}
 use Rattle.settle.specs.declared.Settled.{Settled}
-use Rattle.rehearsal.specs.Answers.{Numbers, numbersOf, squareOf, stored as numbered}
+use Rattle.rehearsal.specs.Answers.{Numbers, squareOf, stored as numbered}
 use Rattle.rehearsal.specs.Counts.{Sums, lengths, sumsOf}
 use Rattle.rehearsal.specs.Line.{Advance, Command, Crash, Create, Cut, Deliver, Link, NotUnderstood, Open, Recover, Settle, Square, Totals, Unlink, Verb}
 use Rattle.rehearsal.specs.Rehearsal.{answerNumbers, argument, closed, happened, hasSettled, isOpen, opening, respond, respondTo, running, square, totalNumbers, unread}
-use Rattle.rehearsal.specs.Session.{Agrees, Orderly, Response, Session, afterEvent, afterOpen, afterSettle, holding, notRead, openedBy, closedSession, responded, respondedTo, stateOf}
+use Rattle.rehearsal.specs.Session.{Agrees, Orderly, Response, Session, afterEvent, afterOpen, afterSettle, closedSession, holding, notRead, openedBy, responded, respondedTo, stateOf}
 use Rattle.rehearsal.proofs.Counting.{square-counted}
 use Rattle.rehearsal.proofs.Squares.{stored-numbers}
 

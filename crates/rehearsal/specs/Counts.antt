@@ -4,7 +4,7 @@ use Prim.Native.Nat.{_*_, _+_, _≤_, min, ℕ}
 use lib.ListN.{length}
 use Rattle.lists.specs.Lists.{each}
 use Rattle.protocol.specs.Bounds.{maxBackpointers, maxEntries, maxMessages, maxPartitions, maxRecords}
-use Rattle.protocol.specs.Tables.{Model, Totals, queue}
+use Rattle.protocol.specs.Tables.{Model, Totals, queue, totals}
 use Rattle.tables.specs.View.{queueAt}
 use Rattle.tables.specs.declared.Partition.{Partition}
 use Rattle.tables.specs.declared.Tables.{Tables}
@@ -14,6 +14,14 @@ pub use Rattle.rehearsal.specs.declared.Sums.{Sums}
 -- "entries, back-pointers, records, messages over all"
 abbrev pub sumsOf : Totals → Sums
 sumsOf x = record { entries = x .entries; backpointers = x .backpointers; records = x .records; messages = x .messages }
+
+-- the same of the partitions alone
+abbrev pub partitionSums : Model → Sums
+partitionSums m =
+    record { entries = totals m .entries; backpointers = totals m .backpointers; records = totals m .records; messages = 0 }
+
+abbrev pub noSums : Sums
+noSums = record { entries = 0; backpointers = 0; records = 0; messages = 0 }
 
 -- "the queue lengths as a square, one row for each sender", of partitions that are not there too
 unfoldable pub lengths : Model → List (List ℕ)

@@ -1,6 +1,6 @@
 -- What a command answers on the stored tables, whatever they hold: `Rehearsal` says it of the model, and `Claims` that the two
 -- agree on the sessions of a rehearsal.
-use mathlib.Core.Bool.{Bool, false, true}
+use mathlib.Core.Bool.{false, true}
 use mathlib.Core.List.{List, [], _∷_}
 use mathlib.Core.Path.{_≡_}
 use Prim.Native.Nat.{ℕ}

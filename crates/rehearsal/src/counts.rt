@@ -5,7 +5,7 @@ ghost use Prim.Native.Nat.{_<_, _≤_, min};
 ghost use Rattle.protocol.specs.Bounds.{maxMessages, maxPartitions};
 ghost use Rattle.protocol.specs.Tables.{totals};
 ghost use Rattle.tables.specs.View.{view};
-ghost use Rattle.rehearsal.specs.Counts.{Small, lengths, lengthsFrom, plusPartition, sumsOf};
+ghost use Rattle.rehearsal.specs.Counts.{Small, lengths, lengthsFrom, noSums, partitionSums, plusPartition, sumsOf};
 use crate::SIDE;
 use crate::Sums;
 use tables::MAX_BACKPOINTERS;
@@ -27,7 +27,7 @@ pub fn at_most(count: usize, most: usize) -> usize
 // ---- the totals
 
 fn no_sums() -> Sums
-    ensures { λ r. ⌜ r ≡ record { entries = 0; backpointers = 0; records = 0; messages = 0 } ⌝ }
+    ensures { λ r. ⌜ r ≡ noSums ⌝ }
 {
     Sums {
         entries: 0,
@@ -54,7 +54,7 @@ fn plus_partition(x: Sums, p: Partition) -> Sums
 
 // The lists of the partitions that there are; no messages yet.
 fn partition_sums(t: Tables) -> Sums
-    ensures { λ r. ⌜ r ≡ sumsOf (record { entries = totals (view t) .entries; backpointers = totals (view t) .backpointers; records = totals (view t) .records; messages = 0 }) ⌝ }
+    ensures { λ r. ⌜ r ≡ partitionSums (view t) ⌝ }
 {
     let side = at_most(t.count, SIDE);
     let mut sums = no_sums();

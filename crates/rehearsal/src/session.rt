@@ -1,7 +1,5 @@
 // What a command answers, and the session after it: one function for each command, by the public events and by settle.
-ghost use mathlib.Core.List.{[], _∷_};
 ghost use mathlib.Core.Path.{_≡_};
-ghost use Rattle.tables.specs.View.{view};
 ghost use Rattle.rehearsal.specs.Answers.{stored};
 ghost use Rattle.rehearsal.specs.Line.{Advance, Crash, Create, Cut, Deliver, Link, Recover, Settle, Square, Totals, Unlink};
 ghost use Rattle.rehearsal.specs.Rehearsal.{answerNumbers, isOpen};
@@ -213,7 +211,7 @@ fn on_square(t: Tables, c: Command) -> Response
     holding(numbers, t)
 }
 
-fn unread(t: Tables) -> Response
+fn on_unread(t: Tables) -> Response
     ensures { λ r. ⌜ r ≡ notRead (holding t) ⌝ }
 {
     let session = Session {
@@ -227,7 +225,7 @@ fn respond_to(verb: Verb, c: Command, t: Tables) -> Response
     ensures { λ r. ⌜ r ≡ respondedTo verb c t ⌝ }
 {
     match verb {
-        Verb::Open => unread(t),
+        Verb::Open => on_unread(t),
         Verb::Link => on_link(t, c),
         Verb::Create => on_create(t, c),
         Verb::Unlink => on_unlink(t, c),
@@ -239,7 +237,7 @@ fn respond_to(verb: Verb, c: Command, t: Tables) -> Response
         Verb::Settle => on_settle(t, c),
         Verb::Totals => on_totals(t, c),
         Verb::Square => on_square(t, c),
-        Verb::NotUnderstood => unread(t),
+        Verb::NotUnderstood => on_unread(t),
     }
 }
 

@@ -6,8 +6,8 @@ use Rattle.rehearsal.proofs.session.respond_to.Tie as tie
 enum-told : tie.Need-enum-told
 enum-told c = search needs
 
-unread-requires : tie.Need-unread-requires
-unread-requires c κs = search needs
+on-unread-requires : tie.Need-on-unread-requires
+on-unread-requires c κs = search needs
 
 enum-told-2 : tie.Need-enum-told-2
 enum-told-2 c = search needs
@@ -78,8 +78,8 @@ on-square-requires c κs = search needs
 enum-told-13 : tie.Need-enum-told-13
 enum-told-13 c = search needs
 
-unread-requires-2 : tie.Need-unread-requires-2
-unread-requires-2 c κs = search needs
+on-unread-requires-2 : tie.Need-on-unread-requires-2
+on-unread-requires-2 c κs = search needs
 
 returns : tie.Need-returns
 returns c = search (told, needs)
@@ -125,7 +125,7 @@ respond-to-spec =
     tie.close
     (tie.spec
     enum-told
-    unread-requires
+    on-unread-requires
     enum-told-2
     on-link-requires
     enum-told-3
@@ -149,7 +149,7 @@ respond-to-spec =
     enum-told-12
     on-square-requires
     enum-told-13
-    unread-requires-2
+    on-unread-requires-2
     returns
     returns-2
     returns-3
