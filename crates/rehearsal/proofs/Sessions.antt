@@ -10,7 +10,7 @@ use Rattle.lists.specs.Lists.{pick}
 use Rattle.lists.proofs.Tests.{and-left, and-right, byTest, every-at, no-true}
 use Rattle.protocol.specs.Answers.{Outcome, accepted, check}
 use Rattle.protocol.specs.Bounds.{maxPartitions}
-use Rattle.protocol.specs.Elements.{refusalNumber}
+use Rattle.protocol.specs.Elements.{isAccepted, refusalNumber}
 use Rattle.protocol.specs.Events.{Advancing, Crashing, Creating, Cutting, Delivering, Event, Linking, Opening, Recovering, Unlinking, apply, bare}
 use Rattle.protocol.specs.Faults.{openTables}
 use Rattle.protocol.specs.Order.{inOrder}
@@ -204,6 +204,10 @@ module _ (s : Session) (c : Command) (r : Response) where
   pub respond-open : s .«open» ≡ true → r ≡ respondedTo (c .verb) c (s .tables) → r ≡ responded s c
   unfolding responded
   respond-open e h = h ∙ ap (λ (b : Bool). pick b (respondedTo (c .verb) c (s .tables)) (openedBy s c)) (sym e)
+
+pub opened-given : (a : Answered) (x : Answer) (u : Tables) (b : Bool) (ns : Numbers) → ns ≡ numbered (answerNumbers x) → b ≡ isAccepted (x .refusal)
+    → x ≡ a .answer → u ≡ a .tables → record { numbers = ns; session = record { «open» = b; tables = u } } ≡ afterOpen a
+opened-given a x u b ns en eb ex eu = rw (en, eb, ex, eu) refl
 
 pub ruleset openings = (open-unread, open-taken)
 
