@@ -5,7 +5,7 @@ use Prim.Native.Nat.{_*_, _+_, _<_, _≤_, min, suc, zero, ℕ}
 use native.Mathlib.Numerals.{add-one}
 use native.Mathlib.Omega.{arith}
 use lib.Dec.{eqb}
-use lib.ListN.{List·getD-append, List·getD-map, getD, length, length-append, length-map, length-take, take}
+use lib.ListN.{List·getD-append, List·getD-map, getD, length, length-map, length-take, take}
 use lib.Seq.{getD-at}
 use borrow.Author.Tests.{eqb-false, eqb-true}
 use Rattle.lists.specs.Lists.{each, total}
@@ -20,6 +20,8 @@ use Rattle.tables.specs.declared.Tables.{Tables}
 use Rattle.tables.proofs.Views.{partition-there, queues-view}
 use Rattle.rehearsal.specs.Answers.{row, rows, squareOf}
 use Rattle.rehearsal.specs.Counts.{Small, Sums, lengthAt, lengths, lengthsFrom, noSums, partitionSums, plusPartition, sumsOf}
+use Rattle.rehearsal.specs.Rehearsal.{square}
+use Rattle.rehearsal.proofs.Squares.{each-length}
 
 -- ---- counts of arrays
 
@@ -87,11 +89,13 @@ module _ (t : Tables) where
 
   -- a count of each partition that is there, summed
   module _ (z : Sized t) (f : Part → ℕ) (none : f noPart ≡ 0) (g : ℕ → ℕ) where
-    total-is : ((i : ℕ) → i < t .count → i < maxPartitions → f (viewPartition (partitionAt t i)) ≡ g i) → sum (min (t .count) maxPartitions) g ≡ total f (view t .partitions)
+    total-is : ((i : ℕ) → i < t .count → i < maxPartitions → f (viewPartition (partitionAt t i)) ≡ g i)
+        → sum (min (t .count) maxPartitions) g ≡ total f (view t .partitions)
     unfolding partition
     total-is h =
         let c = partitions-counted t z in
-        sum-same (min (t .count) maxPartitions) g (λ i. f (partition (view t) i)) (λ i l. sym (ap f (partition-there t i (omega arith)) ∙ h i (omega arith) (omega arith)))
+        sum-same (min (t .count) maxPartitions) g (λ i. f (partition (view t) i))
+        (λ i l. sym (ap f (partition-there t i (omega arith)) ∙ h i (omega arith) (omega arith)))
         ∙ total-sum f noPart none (view t .partitions) (min (t .count) maxPartitions) (omega arith)
 
   pub sum-done : (x : Sums) (i side : ℕ) → Summing x i → Sized t → i ≤ side → side ≤ i → side ≡ min (t .count) maxPartitions
@@ -100,7 +104,9 @@ module _ (t : Tables) where
   sum-done x i side w z h g e =
       let q : i ≡ min (t .count) maxPartitions = omega arith in
       let a = total-is z (λ (p : Part). length (p .entries)) refl entriesAt (λ k l b. counted _ maxEntries _ (z .partition k b .entries)) in
-      let b = total-is z (λ (p : Part). length (p .backpointers)) refl backpointersAt (λ k l b. counted _ maxBackpointers _ (z .partition k b .backpointers)) in
+      let b =
+      total-is z (λ (p : Part). length (p .backpointers)) refl backpointersAt (λ k l b. counted _ maxBackpointers _ (z .partition k b .backpointers))
+      in
       let c = total-is z (λ (p : Part). length (p .records)) refl recordsAt (λ k l b. counted _ maxRecords _ (z .partition k b .records)) in
       w .so-far ∙ rw q (λ j. record { entries = a j; backpointers = b j; records = c j; messages = 0 })
 
@@ -138,12 +144,7 @@ totals-are m x n ex en = rw (ex, en) refl
 
 -- ---- the square
 
--- the f of each number below n, at its place
-each-length : {A : Type 0} (n : ℕ) (f : ℕ → A) → length (each n (λ i. f i ∷ [])) ≡ n
-unfolding each
-each-length zero f = refl
-each-length (suc n) f = let p = length-append (each n (λ i. f i ∷ [])) (f n ∷ []) in let q = each-length n f in p ∙ omega arith
-
+-- the f of each number below n stands at its place
 each-read : {A : Type 0} (n : ℕ) (f : ℕ → A) (d : A) (i : ℕ) → i < n → getD (each n (λ i. f i ∷ [])) i d ≡ f i
 unfolding each
 each-read zero f d i h = absurd (omega arith)
@@ -163,7 +164,8 @@ each-same (suc n) f g h = rw (each-same n f g (λ i l. h i (omega arith)), h n (
 rows-same : (n : ℕ) (f g : ℕ → ℕ → ℕ) → ((s r : ℕ) → s < n → r < n → f s r ≡ g s r) → squareOf n f ≡ squareOf n g
 unfolding row rows
 rows-same n f g h =
-    each-same n (λ s. row n (f s)) (λ s. row n (g s)) (λ s l. each-same n (λ r. f s r ∷ []) (λ r. g s r ∷ []) (λ r k. ap (λ (x : ℕ). x ∷ []) (h s r l k)))
+    each-same n (λ s. row n (f s)) (λ s. row n (g s))
+    (λ s l. each-same n (λ r. f s r ∷ []) (λ r. g s r ∷ []) (λ r k. ap (λ (x : ℕ). x ∷ []) (h s r l k)))
 
 lengths-read : (m : Model) (s r : ℕ) → s < maxPartitions → r < maxPartitions → getD (getD (lengths m) s []) r 0 ≡ length (queue m s r)
 unfolding lengths row
@@ -173,7 +175,7 @@ lengths-read m s r h k =
 
 -- the square of the partitions that there are
 pub square-counted : (t : Tables) (ls : List (List ℕ)) → Sized t → ls ≡ lengths (view t)
-    → squareOf (min (t .count) maxPartitions) (λ s k. getD (getD ls s []) k 0) ≡ squareOf (partitionCount (view t)) (λ s r. length (queue (view t) s r))
+    → squareOf (min (t .count) maxPartitions) (λ s k. getD (getD ls s []) k 0) ≡ square (view t)
 square-counted t ls z e =
     rw (e, partitions-counted t z)
     (rows-same (min (t .count) maxPartitions) (λ s k. getD (getD (lengths (view t)) s []) k 0) (λ s r. length (queue (view t) s r))
@@ -190,8 +192,8 @@ row-counted t s z h =
     λ i. a i ∷ sym b i ∷ sym c i ∷ sym d i ∷ []
 
 -- `lengths_of`
-pub lengths-are : (t : Tables) (a b c d : List ℕ) → Sized t → a ≡ lengthsFrom t 0 → b ≡ lengthsFrom t 1 → c ≡ lengthsFrom t 2 → d ≡ lengthsFrom t 3
-    → a ∷ b ∷ c ∷ d ∷ [] ≡ lengths (view t)
+pub lengths-are : (t : Tables) (a b c d : List ℕ) → Sized t
+    → a ≡ lengthsFrom t 0 → b ≡ lengthsFrom t 1 → c ≡ lengthsFrom t 2 → d ≡ lengthsFrom t 3 → a ∷ b ∷ c ∷ d ∷ [] ≡ lengths (view t)
 unfolding lengths each
 lengths-are t a b c d z ea eb ec ed =
     rw (ea, eb, ec, ed, row-counted t 0 z (omega arith), row-counted t 1 z (omega arith), row-counted t 2 z (omega arith), row-counted t 3 z (omega arith)) refl

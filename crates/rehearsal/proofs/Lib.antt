@@ -10,4 +10,5 @@ pub mod Examples
 pub mod Returns
 pub mod Squares
 pub mod Counting
+pub mod Responding
 pub mod Sessions

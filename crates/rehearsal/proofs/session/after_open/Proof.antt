@@ -1,4 +1,4 @@
-use Rattle.rehearsal.proofs.Sessions.{opened-given}
+use Rattle.rehearsal.proofs.Responding.{open-told}
 use borrow.Author.Needs.{needs}
 use Rattle.rehearsal.proofs.session.after_open.Statement.{statement}
 use Rattle.rehearsal.proofs.session.after_open.Tie as tie
@@ -10,7 +10,7 @@ accepted-requires : tie.Need-accepted-requires
 accepted-requires c κs = search needs
 
 returns : tie.Need-returns
-returns c = search (opened-given, needs)
+returns c = search (open-told, needs)
 
 pub after-open-spec : {M : Type 1} → statement M
 after-open-spec = tie.close (tie.spec numbers-of-requires accepted-requires returns)

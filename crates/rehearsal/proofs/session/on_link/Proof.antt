@@ -1,4 +1,4 @@
-use Rattle.rehearsal.proofs.Sessions.{event-given}
+use Rattle.rehearsal.proofs.Responding.{by-event}
 use Rattle.rehearsal.specs.Session.{respondedTo}
 use borrow.Author.Needs.{needs}
 use Rattle.rehearsal.proofs.session.on_link.Statement.{statement}
@@ -24,7 +24,7 @@ after-event-requires c κs = search needs
 
 returns : tie.Need-returns
 unfolding respondedTo
-returns c = search (event-given, needs)
+returns c = search (by-event, needs)
 
 pub on-link-spec : {M : Type 1} → statement M
 on-link-spec =

@@ -1,4 +1,4 @@
-use Rattle.rehearsal.proofs.Sessions.{settle-given}
+use Rattle.rehearsal.proofs.Responding.{by-settle}
 use Rattle.rehearsal.specs.Session.{respondedTo}
 use borrow.Author.Needs.{needs}
 use Rattle.rehearsal.proofs.session.on_settle.Statement.{statement}
@@ -24,7 +24,7 @@ holding-requires c κs = search needs
 
 returns : tie.Need-returns
 unfolding respondedTo
-returns c = search (settle-given, needs)
+returns c = search (by-settle, needs)
 
 pub on-settle-spec : {M : Type 1} → statement M
 on-settle-spec =

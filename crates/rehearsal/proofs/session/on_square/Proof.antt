@@ -1,4 +1,4 @@
-use Rattle.rehearsal.proofs.Sessions.{square-given}
+use Rattle.rehearsal.proofs.Responding.{by-square}
 use Rattle.tables.proofs.Known.{sized}
 use borrow.Author.Needs.{needs}
 use Rattle.rehearsal.proofs.session.on_square.Statement.{statement}
@@ -14,7 +14,7 @@ holding-requires : tie.Need-holding-requires
 holding-requires c κs = search needs
 
 returns : tie.Need-returns
-returns c = search (square-given, sized, needs)
+returns c = search (by-square, sized, needs)
 
 pub on-square-spec : {M : Type 1} → statement M
 on-square-spec = tie.close (tie.spec lengths-of-requires square-requires holding-requires returns)

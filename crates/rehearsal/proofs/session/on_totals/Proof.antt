@@ -1,4 +1,4 @@
-use Rattle.rehearsal.proofs.Sessions.{totals-given}
+use Rattle.rehearsal.proofs.Responding.{by-totals}
 use borrow.Author.Needs.{needs}
 use Rattle.rehearsal.proofs.session.on_totals.Statement.{statement}
 use Rattle.rehearsal.proofs.session.on_totals.Tie as tie
@@ -13,7 +13,7 @@ holding-requires : tie.Need-holding-requires
 holding-requires c κs = search needs
 
 returns : tie.Need-returns
-returns c = search (totals-given, needs)
+returns c = search (by-totals, needs)
 
 pub on-totals-spec : {M : Type 1} → statement M
 on-totals-spec = tie.close (tie.spec totals-of-requires totals-requires holding-requires returns)

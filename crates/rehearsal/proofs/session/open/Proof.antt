@@ -1,4 +1,4 @@
-use Rattle.rehearsal.proofs.Sessions.{openings}
+use Rattle.rehearsal.proofs.Responding.{openings}
 use borrow.Author.Needs.{needs}
 use Rattle.rehearsal.proofs.session.open.Statement.{statement}
 use Rattle.rehearsal.proofs.session.open.Tie as tie

@@ -1,4 +1,4 @@
-use Rattle.rehearsal.proofs.Sessions.{responses}
+use Rattle.rehearsal.proofs.Responding.{responses}
 use borrow.Author.Needs.{needs}
 use Rattle.rehearsal.proofs.session.respond.Statement.{statement}
 use Rattle.rehearsal.proofs.session.respond.Tie as tie

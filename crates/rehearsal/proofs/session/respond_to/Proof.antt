@@ -1,4 +1,5 @@
-use Rattle.rehearsal.proofs.Sessions.{told}
+use Rattle.rehearsal.specs.Session.{respondedTo}
+use Rattle.rehearsal.proofs.Responding.{by-verb}
 use borrow.Author.Needs.{needs}
 use Rattle.rehearsal.proofs.session.respond_to.Statement.{statement}
 use Rattle.rehearsal.proofs.session.respond_to.Tie as tie
@@ -82,43 +83,56 @@ on-unread-requires-2 : tie.Need-on-unread-requires-2
 on-unread-requires-2 c κs = search needs
 
 returns : tie.Need-returns
-returns c = search (told, needs)
+unfolding respondedTo
+returns c = search (by-verb, needs)
 
 returns-2 : tie.Need-returns-2
-returns-2 c = search (told, needs)
+unfolding respondedTo
+returns-2 c = search (by-verb, needs)
 
 returns-3 : tie.Need-returns-3
-returns-3 c = search (told, needs)
+unfolding respondedTo
+returns-3 c = search (by-verb, needs)
 
 returns-4 : tie.Need-returns-4
-returns-4 c = search (told, needs)
+unfolding respondedTo
+returns-4 c = search (by-verb, needs)
 
 returns-5 : tie.Need-returns-5
-returns-5 c = search (told, needs)
+unfolding respondedTo
+returns-5 c = search (by-verb, needs)
 
 returns-6 : tie.Need-returns-6
-returns-6 c = search (told, needs)
+unfolding respondedTo
+returns-6 c = search (by-verb, needs)
 
 returns-7 : tie.Need-returns-7
-returns-7 c = search (told, needs)
+unfolding respondedTo
+returns-7 c = search (by-verb, needs)
 
 returns-8 : tie.Need-returns-8
-returns-8 c = search (told, needs)
+unfolding respondedTo
+returns-8 c = search (by-verb, needs)
 
 returns-9 : tie.Need-returns-9
-returns-9 c = search (told, needs)
+unfolding respondedTo
+returns-9 c = search (by-verb, needs)
 
 returns-10 : tie.Need-returns-10
-returns-10 c = search (told, needs)
+unfolding respondedTo
+returns-10 c = search (by-verb, needs)
 
 returns-11 : tie.Need-returns-11
-returns-11 c = search (told, needs)
+unfolding respondedTo
+returns-11 c = search (by-verb, needs)
 
 returns-12 : tie.Need-returns-12
-returns-12 c = search (told, needs)
+unfolding respondedTo
+returns-12 c = search (by-verb, needs)
 
 returns-13 : tie.Need-returns-13
-returns-13 c = search (told, needs)
+unfolding respondedTo
+returns-13 c = search (by-verb, needs)
 
 pub respond-to-spec : {M : Type 1} → statement M
 respond-to-spec =
