@@ -20,10 +20,14 @@ pub stored-more : (ns : List ℕ) (n : ℕ) → length ns < maxNumbers → pushe
 unfolding stored
 stored-more ns n h = let p = length-append ns (n ∷ []) in λ i. record { count = sym p i; values = set-pad maxNumbers 0 ns n h i }
 
+pub each-length : {A : Type 0} (n : ℕ) (f : ℕ → A) → length (each n (λ k. f k ∷ [])) ≡ n
+unfolding each
+each-length zero f = refl
+each-length (suc n) f = let p = length-append (each n (λ k. f k ∷ [])) (f n ∷ []) in let q = each-length n f in p ∙ omega arith
+
 row-length : (n : ℕ) (f : ℕ → ℕ) → length (row n f) ≡ n
-unfolding row each
-row-length zero f = refl
-row-length (suc n) f = let p = length-append (row n f) (f n ∷ []) in let q = row-length n f in p ∙ omega arith
+unfolding row
+row-length n f = each-length n f
 
 row-more : (n : ℕ) (f : ℕ → ℕ) → row (n + 1) f ≡ row n f ++ f n ∷ []
 unfolding row each

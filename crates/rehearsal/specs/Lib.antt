@@ -3,5 +3,7 @@ pub mod Places
 pub mod Text
 pub mod Answers
 pub mod Rehearsal
+pub mod Counts
+pub mod Session
 pub mod Worked
 pub mod Claims

@@ -8,6 +8,7 @@ ghost use Rattle.rehearsal.specs.Answers.{maxNumbers, numbersOf, pushed,
 use crate::NUMBERS;
 use crate::Numbers;
 use crate::SIDE;
+use crate::counts;
 
 // The refusal, the transaction number concerned, the reply.
 pub fn answered(refusal: u32, number: u32, reply: u32) -> Numbers
@@ -66,17 +67,11 @@ fn accepted() -> Numbers
     }
 }
 
-fn side_of(count: usize) -> usize
-    ensures { λ r. ⌜ (r ≡ min count maxPartitions) × (r ≤ maxPartitions) ⌝ }
-{
-    if count < SIDE { count } else { SIDE }
-}
-
 // Accepted; the queue lengths between the partitions that there are, one row for each sender, row after row.
 pub fn square(lengths: [[u32; SIDE]; SIDE], count: usize) -> Numbers
     ensures { λ r. ⌜ r ≡ stored (0 ∷ squareOf (min count maxPartitions) (λ s k. getD (getD lengths s []) k 0)) ⌝ }
 {
-    let side = side_of(count);
+    let side = counts::at_most(count, SIDE);
     let mut x = accepted();
     let mut i: usize = 0;
     while i < side {

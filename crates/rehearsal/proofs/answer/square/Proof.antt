@@ -10,8 +10,8 @@ Inv-loop count lengths side x₀ i₀ x i = (i ≤ side) × Squaring lengths sid
 abbrev μ-loop : tie.MeasureT-loop
 μ-loop count lengths side x₀ i₀ x i = side - i
 
-side-of-requires : tie.Need-side-of-requires Inv-loop μ-loop
-side-of-requires c κs = search (squaring, needs)
+at-most-requires : tie.Need-at-most-requires Inv-loop μ-loop
+at-most-requires c κs = search (squaring, needs)
 
 accepted-requires : tie.Need-accepted-requires Inv-loop μ-loop
 accepted-requires c κs = search (squaring, needs)
@@ -38,7 +38,7 @@ loop-again : tie.Need-loop-again Inv-loop μ-loop
 loop-again c = search (squaring, needs)
 
 returns : tie.Need-returns Inv-loop μ-loop
-returns c = square-done _ _ _ _ (c .before .loop .inv .1) (c .before .loop .inv .0) (c .loop-test .left) _ (c .before .before .before .side-of .ensures .0)
+returns c = square-done _ _ _ _ (c .before .loop .inv .1) (c .before .loop .inv .0) (c .loop-test .left) _ (c .before .before .before .at-most .ensures .0)
 
 pub square-spec : {M : Type 1} → statement M
 square-spec =
@@ -46,7 +46,7 @@ square-spec =
     (tie.spec
     Inv-loop
     μ-loop
-    side-of-requires
+    at-most-requires
     accepted-requires
     loop-holds
     mul-numbers
