@@ -1,0 +1,4 @@
+pub mod Gathering
+pub mod Answering
+pub mod Feeding
+pub mod Turning
