@@ -2,3 +2,4 @@ pub mod Gathering
 pub mod Answering
 pub mod Feeding
 pub mod Turning
+pub mod Dividing

@@ -1,2 +1,3 @@
 pub mod Feed
 pub mod Sessions
+pub mod Claims

@@ -4,6 +4,7 @@ ghost use mathlib.Core.Path.{_≡_};
 ghost use Prim.Native.Nat.{_*_, _≤_};
 ghost use lib.ListN.{length, take};
 ghost use Rattle.rehearsal.specs.Text.{Adds};
+ghost use Rattle.rehearse.specs.Claims.{AnyBlocks};
 ghost use Rattle.rehearse.specs.Feed.{blockBytes, fed, longestAnswer, said};
 ghost use Rattle.rehearse.specs.Sessions.{midwayOf, sessions};
 use blocks::Kept;
@@ -15,6 +16,11 @@ mod blocks;
 
 // Room for the answers to any block of `io::buffer`: each of its bytes may end a line, and have the longest answer.
 const ROOM: usize = 851968;
+
+// What is proved of the definitions: the function does nothing.
+pub fn claims()
+    ensures { λ r. ⌜ AnyBlocks ⌝ }
+{}
 
 // The lent room, with its length said once: a proof that looks into so long an array takes long.
 fn empty_room() -> [u8; ROOM]
