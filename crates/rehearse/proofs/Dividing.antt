@@ -1,7 +1,7 @@
 -- However an input is divided into blocks, the answers to them are the answers to its lines.
 use mathlib.Core.Bool.{false, true}
 use mathlib.Core.List.{List, [], _++_, _∷_, append-assoc, append-nil}
-use mathlib.Core.Path.{_∙_, _≡_, ap, ap₂, refl, sym}
+use mathlib.Core.Path.{_∙_, _≡_, ap, ap₂, refl, subst, sym}
 use Prim.Native.Nat.{_%_, _+_, _<_, _^_, _≤_, suc, ℕ}
 use native.Mathlib.Omega.{arith}
 use lib.Dec.{eqb, leb}
@@ -12,9 +12,12 @@ use Rattle.lists.specs.Lists.{isSome, one}
 use Rattle.lists.proofs.Tests.{byTest}
 use Rattle.rehearsal.specs.Line.{behind, commandOf, lineBytes, upTo}
 use Rattle.rehearsal.specs.Rehearsal.{State, answeredFrom, closed, linesFrom, rehearsal, respond}
+use Rattle.rehearsal.specs.Session.{Agrees, Orderly, closedSession, responded, stateOf}
 use Rattle.rehearsal.specs.Text.{lineEnd, lineText}
 use Rattle.rehearsal.specs.declared.Command.{Command}
-use Rattle.rehearse.specs.Claims.{states}
+use Rattle.rehearsal.specs.declared.session.Session.{Session}
+use Rattle.rehearsal.proofs.Sessions.{first-closed, first-orderly, session-agrees}
+use Rattle.rehearse.specs.Sessions.{atStart, sessions}
 use Rattle.rehearse.specs.Feed.{Midway, Service, answer, answered, begunWith, fed, fedByte, joined, lineRoom, midway, nextLine, said, saidAll, saidByte, saidLast, startWith}
 
 -- ---- blocks, one after the other
@@ -129,5 +132,18 @@ module _ {S : Type 0} (v : Service S) (R : S → State → Type 0) (same : (a : 
   unfolding rehearsal
   rehearsed blocks a r h = blocks-whole v blocks (startWith a) ∙ lines (joined blocks) [] 0 a closed r (omega arith)
 
-pub any-blocks : (blocks : List (List ℕ)) → length (joined blocks) < 2 ^ 64 → saidAll states (startWith closed) blocks ≡ rehearsal (joined blocks)
-any-blocks blocks h = rehearsed states (λ a x. a ≡ x) (λ a x c e. rw e) (λ a x c e. rw e) blocks closed refl h
+-- the program's sessions, in order, follow the states that they stand for
+pub record Stands (s : Session) (x : State) : Type 0 where
+  pub orderly : Orderly s
+  pub state : stateOf s ≡ x
+
+module _ (s : Session) (x : State) (c : Command) (r : Stands s x) where
+  agree : Agrees (responded s c) (respond x c)
+  agree = subst (λ (y : State). Agrees (responded s c) (respond y c)) (r .state) (session-agrees s c (r .orderly))
+
+  stands-on : Stands (responded s c .session) (respond x c .state)
+  stands-on = record { orderly = agree .next; state = agree .state }
+
+pub any-blocks : (blocks : List (List ℕ)) → length (joined blocks) < 2 ^ 64 → saidAll sessions atStart blocks ≡ rehearsal (joined blocks)
+any-blocks blocks h =
+    rehearsed sessions Stands (λ s x c r. agree s x c r .numbers) stands-on blocks closedSession (record { orderly = first-orderly; state = first-closed }) h

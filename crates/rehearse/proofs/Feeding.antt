@@ -11,7 +11,7 @@ use lib.Seq.{drop-cons}
 use borrow.Author.Tests.{eq-eqb, ne-eqb}
 use Rattle.rehearsal.specs.Answers.{numbersOf}
 use Rattle.rehearsal.specs.Line.{commandOf}
-use Rattle.rehearsal.specs.Session.{responseTo}
+use Rattle.rehearsal.specs.Session.{responded}
 use Rattle.rehearsal.specs.Text.{Adds, lineEnd, lineText}
 use Rattle.rehearsal.specs.declared.Command.{Command}
 use Rattle.rehearsal.specs.declared.Numbers.{Numbers}
@@ -78,7 +78,7 @@ module _ (x₀ : Midway Session) (block before : List ℕ) where
               ∙ sym (append-assoc (f .text) t (said sessions (midway l′ n′ s′) (drop (i + 1) block)));
         }
 
-    pub feed-line : i < length block → getD block i 0 ≡ lineEnd → (n′ : ℕ) → n′ ≡ nextLine n → (c : Command) → c ≡ commandOf l → (r : Response) → r ≡ responseTo s c → (a : List ℕ) (p : ℕ) → Adds (lineText (n′ ∷ numbersOf (r .numbers))) out place a p → p ≤ place + longestAnswer → (l′ : List ℕ) → l′ ≡ [] → (s′ : Session) → s′ ≡ r .session → Feeding l′ n′ s′ a p (i + 1)
+    pub feed-line : i < length block → getD block i 0 ≡ lineEnd → (n′ : ℕ) → n′ ≡ nextLine n → (c : Command) → c ≡ commandOf l → (r : Response) → r ≡ responded s c → (a : List ℕ) (p : ℕ) → Adds (lineText (n′ ∷ numbersOf (r .numbers))) out place a p → p ≤ place + longestAnswer → (l′ : List ℕ) → l′ ≡ [] → (s′ : Session) → s′ ≡ r .session → Feeding l′ n′ s′ a p (i + 1)
     feed-line h b n′ en c ec r er a p w q l′ el s′ es =
         let e : eqb (getD block i 0) lineEnd ≡ true = eq-eqb _ _ b in
         step h (lineText (n′ ∷ numbersOf (r .numbers))) (rw (e, en, er, ec)) l′ n′ s′ (rw (e, en, el, es, er, ec)) a p w q

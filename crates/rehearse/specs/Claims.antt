@@ -3,13 +3,11 @@ use mathlib.Core.List.{List}
 use mathlib.Core.Path.{_≡_}
 use Prim.Native.Nat.{_<_, _^_, ℕ}
 use lib.ListN.{length}
-use Rattle.rehearsal.specs.Rehearsal.{State, closed, rehearsal, respond}
-use Rattle.rehearse.specs.Feed.{Service, joined, saidAll, startWith}
+use Rattle.rehearsal.specs.Rehearsal.{rehearsal}
+use Rattle.rehearse.specs.Feed.{joined, saidAll}
+use Rattle.rehearse.specs.Sessions.{atStart, sessions}
 
--- what document 01 answers to a command
-abbrev pub states : Service State
-states = record { numbers = λ x c. respond x c .numbers; after = λ x c. respond x c .state }
-
--- whatever the blocks in which an input comes, it is answered as the whole input is
+-- from its start on, and whatever the blocks in which an input comes, what the program says to them is the rehearsal of the input;
+-- past 2 ^ 64 bytes a line's number would not have room
 pub record AnyBlocks : Type 0 where
-  pub whole : (blocks : List (List ℕ)) → length (joined blocks) < 2 ^ 64 → saidAll states (startWith closed) blocks ≡ rehearsal (joined blocks)
+  pub rehearsed : (blocks : List (List ℕ)) → length (joined blocks) < 2 ^ 64 → saidAll sessions atStart blocks ≡ rehearsal (joined blocks)

@@ -3,7 +3,7 @@ use mathlib.Core.List.{List}
 use Prim.Native.Nat.{ℕ}
 use lib.ListN.{take}
 use Rattle.rehearsal.specs.Answers.{numbersOf}
-use Rattle.rehearsal.specs.Session.{closedSession, responseTo}
+use Rattle.rehearsal.specs.Session.{closedSession, responded}
 use Rattle.rehearsal.specs.declared.session.Session.{Session}
 use Rattle.rehearse.specs.Feed.{Midway, Service, midway, startWith}
 use Rattle.rehearse.specs.declared.blocks.Kept.{Kept}
@@ -11,7 +11,7 @@ use Rattle.rehearse.specs.declared.blocks.Line.{Line}
 
 -- what a session answers to a command, and the session after it
 abbrev pub sessions : Service Session
-sessions = record { numbers = λ s c. numbersOf (responseTo s c .numbers); after = λ s c. responseTo s c .session }
+sessions = record { numbers = λ s c. numbersOf (responded s c .numbers); after = λ s c. responded s c .session }
 
 abbrev pub lineOf : Line → List ℕ
 lineOf l = take (l .len) (l .bytes)

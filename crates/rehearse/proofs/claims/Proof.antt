@@ -3,7 +3,7 @@ use Rattle.rehearse.proofs.claims.Statement.{statement}
 use Rattle.rehearse.proofs.claims.Tie as tie
 
 returns : tie.Need-returns
-returns c = record { whole = any-blocks }
+returns c = record { rehearsed = any-blocks }
 
 pub claims-spec : {M : Type 1} → statement M
 claims-spec = tie.close (tie.spec returns)
