@@ -1,11 +1,11 @@
 -- The answer to a line: there is room for it where there is room for the longest.
 use mathlib.Core.Bool.{true}
 use mathlib.Core.List.{List, _∷_}
-use mathlib.Core.Path.{_∙_, _≡_}
+use mathlib.Core.Path.{_≡_}
 use Prim.Native.Nat.{_+_, _<_, _^_, _≤_, ℕ}
 use native.Mathlib.Omega.{arith}
 use lib.Dec.{leb}
-use lib.ListN.{getD, length, length-take, take}
+use lib.ListN.{getD, length, length-take}
 use lib.Seq.{getD-take}
 use borrow.Author.Tests.{le-leb}
 use mir.Val.{Val}

@@ -2,7 +2,7 @@
 use mathlib.Core.Bool.{false, true}
 use mathlib.Core.List.{List, [], _++_, _∷_, append-assoc, append-nil}
 use mathlib.Core.Path.{_∙_, _≡_, ap, refl, sym}
-use Prim.Native.Nat.{_*_, _+_, _<_, _≤_, suc, ℕ}
+use Prim.Native.Nat.{_*_, _+_, _<_, _≤_, ℕ}
 use native.Mathlib.Numerals.{add-one}
 use native.Mathlib.Omega.{arith}
 use lib.Dec.{eqb}
@@ -14,7 +14,6 @@ use Rattle.rehearsal.specs.Line.{commandOf}
 use Rattle.rehearsal.specs.Session.{responded}
 use Rattle.rehearsal.specs.Text.{Adds, lineEnd, lineText}
 use Rattle.rehearsal.specs.declared.Command.{Command}
-use Rattle.rehearsal.specs.declared.Numbers.{Numbers}
 use Rattle.rehearsal.specs.declared.session.Response.{Response}
 use Rattle.rehearsal.specs.declared.session.Session.{Session}
 use Rattle.rehearsal.proofs.Buffers.{adds-length, adds-nothing, adds-on}

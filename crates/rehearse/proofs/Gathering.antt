@@ -1,13 +1,12 @@
 -- A line that has begun: one byte more, and what it asks.
-use mathlib.Core.Bool.{false, true}
 use mathlib.Core.List.{List, [], _++_, _∷_}
-use mathlib.Core.Path.{_∙_, _≡_, ap, refl, sym}
+use mathlib.Core.Path.{_∙_, _≡_, refl, sym}
 use Prim.Native.Nat.{_+_, _<_, _≤_, suc, zero, ℕ}
 use native.Mathlib.Numerals.{add-one}
 use native.Mathlib.Omega.{arith}
 use lib.Dec.{ltb}
 use lib.ListN.{length, length-append, set, take}
-use lib.Seq.{length-take-le, take-all, take-append-le, take-length, take-suc-set}
+use lib.Seq.{length-take-le, take-all, take-append-le, take-suc-set}
 use borrow.Author.Tests.{lt-ltb}
 use mir.Val.{Val}
 use denote.Laws.{Is}

@@ -1,11 +1,10 @@
 -- A turn: the answers to a block lie within the room.
-use mathlib.Core.List.{List, _++_}
+use mathlib.Core.List.{List}
 use mathlib.Core.Path.{_∙_, _≡_, ap}
-use Prim.Native.Nat.{_*_, _+_, _≤_, ℕ}
+use Prim.Native.Nat.{_+_, _≤_, ℕ}
 use native.Mathlib.Omega.{arith}
-use lib.ListN.{drop, length, length-append, length-take, take}
+use lib.ListN.{drop, length, length-append}
 use Rattle.rehearsal.specs.Text.{Adds, written}
-use Rattle.rehearse.specs.Feed.{longestAnswer}
 
 module _ (t before after : List ℕ) (p : ℕ) (r : Adds t before 0 after p) where
   place-at : length after ≡ length t + length (drop (0 + length t) before)
@@ -14,8 +13,3 @@ module _ (t before after : List ℕ) (p : ℕ) (r : Adds t before 0 after p) whe
 
   pub place-inside : p ≤ length after
   place-inside = omega (arith, place-at, r .place)
-
-pub part-room : (block : List ℕ) (n : ℕ) (out : List ℕ) → length block * longestAnswer ≤ length out → length (take n block) * longestAnswer ≤ length out
-part-room block n out h = omega (arith, length-take n block)
-
-pub ruleset turning = (place-inside, part-room)

@@ -1,6 +1,5 @@
 -- How the input goes by, in blocks of any size (document 01, 'The rehearsal program'): what stands between two of its bytes, and
 -- the text that answers them.
-use mathlib.Core.Bool.{Bool, false, true}
 use mathlib.Core.List.{List, [], _++_, _∷_}
 use Prim.Native.Nat.{_%_, _*_, _+_, _^_, ℕ}
 use lib.Dec.{eqb}

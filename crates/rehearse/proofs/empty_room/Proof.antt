@@ -1,7 +1,6 @@
 use mathlib.Core.Path.{sym}
-use Prim.Native.Nat.{_*_, ℕ}
+use Prim.Native.Nat.{ℕ}
 use lib.ListN.{length-replicate}
-use Rattle.rehearse.specs.Feed.{blockBytes, longestAnswer}
 use Rattle.rehearse.proofs.empty_room.Statement.{statement}
 use Rattle.rehearse.proofs.empty_room.Tie as tie
 
