@@ -5,7 +5,7 @@ ghost use Prim.Native.Nat.{_*_, _≤_};
 ghost use lib.ListN.{length, take};
 ghost use Rattle.rehearsal.specs.Text.{Adds};
 ghost use Rattle.rehearse.specs.Claims.{AnyBlocks};
-ghost use Rattle.rehearse.specs.Feed.{blockBytes, fed, longestAnswer, said};
+ghost use Rattle.rehearse.specs.Feed.{blockBytes, fed, longestAnswer, said, saidLast};
 ghost use Rattle.rehearse.specs.Sessions.{midwayOf, sessions};
 use blocks::Kept;
 use libc::STDIN_FILENO;
@@ -65,15 +65,18 @@ fn goes_on(read: usize, written: bool) -> bool {
     false
 }
 
-// The last line may lack its LF.
-fn finish(k: Kept, out: &mut [u8])
+// The last line may lack its LF: the answer to it, if there is one, ends at the place that is given back.
+fn finish(k: Kept, out: &mut [u8]) -> usize
     requires { ⌜ longestAnswer ≤ length (now out) ⌝ }
+    ensures { λ r. ⌜ Adds (saidLast sessions (midwayOf k)) (now (out .entry)) 0 (now (out .exit)) r ⌝ }
 {
-    if blocks::has_begun(k) {
-        let fed = blocks::feed(k, &[LF], out);
-        let place = fed.place;
-        io::write_all(STDOUT_FILENO, &out[..place]);
+    if blocks::has_begun(k) {} else {
+        return 0;
     }
+    let fed = blocks::feed(k, &[LF], out);
+    let place = fed.place;
+    io::write_all(STDOUT_FILENO, &out[..place]);
+    place
 }
 
 // A proved loop has to end, and nothing says that the input does: no run takes so many turns.
