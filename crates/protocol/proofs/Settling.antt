@@ -12,6 +12,7 @@ use borrow.Author.Tests.{eqb-false, eqb-true, ltb-true}
 use Rattle.lists.specs.Lists.{all, keep}
 use Rattle.protocol.specs.Advance.{advance, advanceFound}
 use Rattle.protocol.specs.Answers.{Outcome, accepted, check}
+use Rattle.protocol.specs.Bounds.{maxRecords}
 use Rattle.protocol.specs.Claims.{Takes}
 use Rattle.protocol.specs.Deliver.{deliver}
 use Rattle.protocol.specs.Demands.{AllUp, acceptedIn, isStep, openRecords}
@@ -319,7 +320,7 @@ pub settle-small : (n : ℕ) (t : Tally) (m : Model) → inOrder m ≡ true → 
 unfolding openRecords partition noPartition
 settle-small n t m o =
     let w : Whole m = order-whole m o in
-    let a = total-most (λ (x : Partition). length (x .records)) noPartition refl 16 (m .partitions) (λ p. w .neat p .records) in
+    let a = total-most (λ (x : Partition). length (x .records)) noPartition refl maxRecords (m .partitions) (λ p. w .neat p .records) in
     let b = w .shape .partitions in
     let c = settle-takes n t m o in
     let d = c .counts in
