@@ -93,11 +93,11 @@ bare-candidate (Opening k) m t a = no-step t
 -- ---- the first accepted one
 
 module _ (f : Event → Model → Outcome) (m : Model) where
-  first-hit : (e : Event) (es : List Event) → accepted (f e m) ≡ true → firstAccepted f m (e ∷ es) ≡ found e
+  pub first-hit : (e : Event) (es : List Event) → accepted (f e m) ≡ true → firstAccepted f m (e ∷ es) ≡ found e
   unfolding firstAccepted
   first-hit e es t = rw (t, firstAccepted) refl
 
-  first-miss : (e : Event) (es : List Event) → accepted (f e m) ≡ false → firstAccepted f m (e ∷ es) ≡ firstAccepted f m es
+  pub first-miss : (e : Event) (es : List Event) → accepted (f e m) ≡ false → firstAccepted f m (e ∷ es) ≡ firstAccepted f m es
   unfolding firstAccepted
   first-miss e es t = rw (t, firstAccepted) refl
 
@@ -124,11 +124,11 @@ module _ (f : Event → Model → Outcome) (m : Model) where
 
 -- the two ways that a settling run goes on
 module _ (f : Event → Model → Outcome) (n : ℕ) (t : Tally) (m : Model) where
-  settle-nothing : firstAccepted f m (candidates m) ≡ nothing → settleBy f (suc n) t m ≡ rested t m
+  pub settle-nothing : firstAccepted f m (candidates m) ≡ nothing → settleBy f (suc n) t m ≡ rested t m
   unfolding settleBy
   settle-nothing h = rw (h, settleBy) refl
 
-  settle-found : (e : Event) → firstAccepted f m (candidates m) ≡ found e
+  pub settle-found : (e : Event) → firstAccepted f m (candidates m) ≡ found e
       → settleBy f (suc n) t m ≡ settleBy f n (tallied (f e m .answer .reply) t) (f e m .model)
   unfolding settleBy
   settle-found e h = rw (h, settleBy) refl
