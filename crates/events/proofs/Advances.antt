@@ -20,7 +20,8 @@ use Rattle.tables.specs.Slots.{noRecord}
 use Rattle.tables.specs.View.{Sized, entriesOf, partitionAt, recordsOf, view, viewPartition}
 use Rattle.tables.specs.declared.Partition.{Partition}
 use Rattle.tables.specs.declared.Tables.{Tables}
-use Rattle.events.specs.Called.{Answered, OpenAt, Ready, refusedWith, stored}
+use Rattle.events.specs.Called.{Answered, Ready, refusedWith, stored}
+use Rattle.events.specs.Layers.{OpenAt}
 use Rattle.lists.proofs.Finds.{found-below, found-kept, none-kept}
 use Rattle.events.proofs.Ways.{passes, read-four, read-records, read-up, read-view, ready-test, ready-there, refuses}
 

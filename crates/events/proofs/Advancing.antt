@@ -13,7 +13,8 @@ use Rattle.protocol.specs.Bounds.{maxEntries, maxMessages, maxPartitions, maxRe
 use Rattle.protocol.specs.Elements.{adds, isAccepted, isSent}
 use Rattle.tables.specs.Slots.{noEntry, noRecord}
 use Rattle.tables.specs.View.{Sized, Stored, entriesOf, pack, packEntries, packRecords, partitionAt, recordsOf, view, viewPartition}
-use Rattle.events.specs.Called.{Answered, OpenAt, Ready, SendsTo, acceptedWith, refusedWith, stored}
+use Rattle.events.specs.Called.{Answered, Ready, acceptedWith, refusedWith, stored}
+use Rattle.events.specs.Layers.{OpenAt, SendsTo}
 use Rattle.lists.proofs.Finds.{found-removed, none-kept}
 use Rattle.lists.proofs.Members.{mem-keep}
 use Rattle.lists.proofs.Places.{mapIf-at, without-at}

@@ -24,7 +24,8 @@ use Rattle.tables.specs.View.{Sized, entriesOf, pack, packRecords, partitionAt,
 use Rattle.tables.specs.declared.Partition.{Partition}
 use Rattle.tables.specs.declared.Records.{Records}
 use Rattle.tables.specs.declared.Tables.{Tables}
-use Rattle.events.specs.Called.{Answered, Opens, Placed, Ready, acceptedWith, askInRange, refusedWith, stored}
+use Rattle.events.specs.Called.{Answered, Ready, acceptedWith, refusedWith, stored}
+use Rattle.events.specs.Layers.{Opens, Placed, askInRange}
 use Rattle.lists.proofs.Tests.{and-left, and-right, every-at}
 use Rattle.protocol.proofs.Look.{part-same}
 use Rattle.tables.proofs.Stored.{records-stored}

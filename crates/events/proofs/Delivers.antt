@@ -20,7 +20,8 @@ use Rattle.tables.specs.View.{Sized, Stored, messagesOf, pack, partitionAt, que
 use Rattle.tables.specs.declared.Partition.{Partition}
 use Rattle.tables.specs.declared.Queue.{Queue}
 use Rattle.tables.specs.declared.Tables.{Tables}
-use Rattle.events.specs.Called.{Answered, Ready, Received, acceptedWith, refusedWith, stored}
+use Rattle.events.specs.Called.{Answered, Ready, acceptedWith, refusedWith, stored}
+use Rattle.events.specs.Layers.{Received}
 use Rattle.lists.proofs.Tests.{and-left, and-right, both-true}
 use Rattle.lists.proofs.Tidies.{tidy-count}
 use Rattle.protocol.proofs.Numbers.{part-queue}

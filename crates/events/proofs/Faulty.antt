@@ -15,7 +15,8 @@ use Rattle.protocol.specs.declared.Reply.the-variants.{None}
 use Rattle.tables.specs.View.{Sized, Stored, pack, partitionAt, view}
 use Rattle.tables.specs.declared.Partition.{Partition}
 use Rattle.tables.specs.declared.Tables.{Tables}
-use Rattle.events.specs.Called.{Answered, Crash, Cut, Ready, acceptedWith, called, emptiesOf, refusedWith, relapsesOf, stored}
+use Rattle.events.specs.Called.{Answered, Ready, acceptedWith, called, refusedWith, stored}
+use Rattle.events.specs.Layers.{Crash, Cut, emptiesOf, relapsesOf}
 use Rattle.lists.proofs.Tests.{and-right, both-true}
 use Rattle.protocol.proofs.Losses.{count-lose}
 use Rattle.tables.proofs.Packs.{view-pack}

@@ -18,7 +18,8 @@ use Rattle.tables.specs.declared.Partition.{Partition}
 use Rattle.tables.specs.declared.Queue.{Queue}
 use Rattle.tables.specs.declared.Records.{Records}
 use Rattle.tables.specs.declared.Tables.{Tables}
-use Rattle.events.specs.Called.{Loss, Ready, emptiesOf, relapsesOf}
+use Rattle.events.specs.Called.{Ready}
+use Rattle.events.specs.Layers.{Loss, emptiesOf, relapsesOf}
 use Rattle.lists.proofs.Keep.{length-mapFrom, length-mapIf}
 use Rattle.tables.proofs.Packs.{pack-view, partition-pack, partition-unpack, shaped-all}
 use Rattle.lists.proofs.Mapped.{Mapping, map-mapFrom, mapIf-from, mapping-all, mapping-end, mapping-keep, mapping-start, mapping-turn}

@@ -26,7 +26,7 @@ use Rattle.tables.specs.declared.Backpointers.{Backpointers}
 use Rattle.tables.specs.declared.Partition.{Partition}
 use Rattle.tables.specs.declared.Records.{Records}
 use Rattle.tables.specs.declared.Tables.{Tables}
-use Rattle.events.specs.Called.{Answers, Lands, OneExactly, Received}
+use Rattle.events.specs.Layers.{Answers, Lands, OneExactly, Received}
 use Rattle.lists.proofs.Finds.{found-below, found-changed, found-removed, none-kept}
 use Rattle.lists.proofs.Places.{nothing-left}
 use Rattle.protocol.proofs.Numbers.{queue-part}

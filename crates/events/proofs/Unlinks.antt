@@ -25,7 +25,8 @@ use Rattle.tables.specs.View.{Sized, entriesOf, pack, packRecords, partitionAt,
 use Rattle.tables.specs.declared.Partition.{Partition}
 use Rattle.tables.specs.declared.Records.{Records}
 use Rattle.tables.specs.declared.Tables.{Tables}
-use Rattle.events.specs.Called.{Answered, PlacedIn, Ready, acceptedWith, inDirectory, refusedWith, stored}
+use Rattle.events.specs.Called.{Answered, Ready, acceptedWith, refusedWith, stored}
+use Rattle.events.specs.Layers.{PlacedIn, inDirectory}
 use Rattle.lists.proofs.Finds.{found-kept, none-kept}
 use Rattle.lists.proofs.Tests.{and-left, and-right}
 use Rattle.events.proofs.Changed.{records-changed}
