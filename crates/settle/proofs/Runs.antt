@@ -4,7 +4,7 @@ use mathlib.Core.Path.{_∙_, _≡_, ap, refl, sym}
 use Prim.Native.Nat.{_+_, _-_, _<_, _≤_, suc, zero, ℕ}
 use native.Mathlib.Numerals.{add-one}
 use native.Mathlib.Omega.{arith}
-use Rattle.lists.proofs.Tests.{and-left, and-right, byTest, every-at, no-true}
+use Rattle.lists.proofs.Tests.{and-left, and-right, byTest, no-true}
 use Rattle.protocol.specs.Bounds.{largestNumber}
 use Rattle.protocol.specs.Elements.{isOne, isOther}
 use Rattle.protocol.specs.Events.{Event, bare}
@@ -19,17 +19,16 @@ use Rattle.protocol.proofs.Settling.{settle-found, settle-nothing, settle-refus
 use Rattle.tables.specs.View.{Sized, pack, shaped, view}
 use Rattle.tables.specs.declared.Tables.{Tables}
 use Rattle.tables.proofs.Packs.{pack-view, view-pack}
-use Rattle.tables.proofs.Shapes.{pack-shaped}
+use Rattle.tables.proofs.Shapes.{order-shaped}
 use Rattle.events.specs.Called.{Ready}
 use Rattle.settle.specs.Settled.{Counts, Settled, Step, settled, settledOn, stepOf}
 
 -- ---- tables in order, stored
 
 in-order-ready : (m : Model) (u : Tables) → inOrder m ≡ true → u ≡ pack m → Ready u
-unfolding inOrder
 in-order-ready m u o e =
     let v : view u ≡ m = ap view e ∙ view-pack m in
-    record { shaped = rw e (pack-shaped m (every-at _ o 0)); order = rw v o }
+    record { shaped = rw e (order-shaped m o); order = rw v o }
 
 -- ---- the two ways on
 
