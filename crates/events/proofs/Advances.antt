@@ -4,7 +4,7 @@ use mathlib.Core.List.{[], _∷_}
 use mathlib.Core.Path.{_∙_, _≡_, ap, refl, sym}
 use Prim.Native.Nat.{_<_, ℕ}
 use native.Mathlib.Omega.{arith}
-use borrow.Author.Tests.{lt-ltb, ltb-true}
+use borrow.Author.Tests.{ltb-true}
 use lib.Dec.{ltb}
 use lib.ListN.{getD}
 use Rattle.lists.specs.Lists.{firstAt, isSome, keep}
@@ -12,7 +12,7 @@ use Rattle.lists.specs.declared.Found.{Found}
 use Rattle.lists.specs.declared.Found.the-variants.{At, Nothing}
 use Rattle.protocol.specs.Advance.{advance, advanceFound, next, nextOf, perform}
 use Rattle.protocol.specs.Bounds.{maxPartitions, maxRecords}
-use Rattle.protocol.specs.Tables.{entryBears, isPartition, partition, recordBears, standsUnder, Partition as Part}
+use Rattle.protocol.specs.Tables.{entryBears, partition, recordBears, standsUnder, Partition as Part}
 use Rattle.protocol.specs.declared.Next.{Next}
 use Rattle.protocol.specs.declared.Record.{Record}
 use Rattle.protocol.specs.declared.Refusal.the-variants.{Down, NoRecord, OutOfRange}
@@ -20,9 +20,10 @@ use Rattle.tables.specs.Slots.{noRecord}
 use Rattle.tables.specs.View.{Sized, entriesOf, partitionAt, recordsOf, view, viewPartition}
 use Rattle.tables.specs.declared.Partition.{Partition}
 use Rattle.tables.specs.declared.Tables.{Tables}
-use Rattle.events.specs.Called.{Answered, OpenAt, Ready, refusedWith, stored}
+use Rattle.events.specs.Called.{Answered, Ready, refusedWith, stored}
+use Rattle.events.specs.Layers.{OpenAt}
 use Rattle.lists.proofs.Finds.{found-below, found-kept, none-kept}
-use Rattle.events.proofs.Ways.{passes, read-four, read-records, read-view, ready-view, refuses}
+use Rattle.events.proofs.Ways.{passes, read-four, read-records, read-up, read-view, ready-test, ready-there, refuses}
 
 module _ (t : Tables) (z : Sized t) (r : Ready t) (p : ℕ) (h : p < t .count) (x : Partition) (e : x ≡ partitionAt t p) where
   seen : partition (view t) p ≡ viewPartition x
@@ -74,20 +75,14 @@ module _ (t : Tables) (z : Sized t) (r : Ready t) (p : ℕ) (h : p < t .count) (
         k ∙ ap (λ (y : Partition). stored t (advanceFound (view t) p (getD (y .records .items) i noRecord ∷ []))) (sym e) ∙ rw l refl
 
   -- the partition is up, or down
-  up-view : partition (view t) p .up ≡ x .up
-  up-view = ap (λ (y : Part). y .up) seen
-
-  is-there : isPartition (view t) p ≡ true
-  is-there = rw (ready-view t z r) (lt-ltb _ _ h)
-
   pub advance-down : (n : ℕ) (a : Answered) → x .up ≡ false → a ≡ refusedWith t Down → a ≡ stored t (advance (view t) p n)
   unfolding advance
-  advance-down n a u k = k ∙ refuses t _ Down _ _ refl (up-view ∙ u) ∙ passes t _ OutOfRange _ _ is-there
+  advance-down n a u k = k ∙ refuses t _ Down _ _ refl (read-up t p z r h x e ∙ u) ∙ passes t _ OutOfRange _ _ (ready-there t p z r h)
 
   pub advance-goes : (n : ℕ) (a : Answered) → x .up ≡ true → a ≡ stored t (advanceFound (view t) p (keep (recordBears n) (partition (view t) p .records)))
       → a ≡ stored t (advance (view t) p n)
   unfolding advance
-  advance-goes n a u k = k ∙ passes t _ Down _ _ (up-view ∙ u) ∙ passes t _ OutOfRange _ _ is-there
+  advance-goes n a u k = k ∙ passes t _ Down _ _ (read-up t p z r h x e ∙ u) ∙ passes t _ OutOfRange _ _ (ready-there t p z r h)
 
 -- the partition is there, or not
 module _ (t : Tables) (z : Sized t) (r : Ready t) (p : ℕ) (b : Bool) (e : b ≡ ltb p (t .count)) where
@@ -99,7 +94,7 @@ module _ (t : Tables) (z : Sized t) (r : Ready t) (p : ℕ) (b : Bool) (e : b �
 
   pub advance-outside : (n : ℕ) (a : Answered) → b ≡ false → a ≡ refusedWith t OutOfRange → a ≡ stored t (advance (view t) p n)
   unfolding advance
-  advance-outside n a f k = k ∙ refuses t _ OutOfRange _ _ refl (rw (ready-view t z r) (sym e ∙ f))
+  advance-outside n a f k = k ∙ refuses t _ OutOfRange _ _ refl (ready-test t p z r b e ∙ f)
 
 pub ruleset records-advanced = (advance-open, advance-next, advance-takes)
 

@@ -13,10 +13,9 @@ use Rattle.protocol.specs.Bounds.{maxEntries, maxMessages, maxPartitions, maxRe
 use Rattle.protocol.specs.Elements.{adds, isAccepted, isSent}
 use Rattle.tables.specs.Slots.{noEntry, noRecord}
 use Rattle.tables.specs.View.{Sized, Stored, entriesOf, pack, packEntries, packRecords, partitionAt, recordsOf, view, viewPartition}
-use Rattle.events.specs.Called.{Answered, OpenAt, Ready, SendsTo, acceptedWith, refusedWith, stored}
-use Rattle.lists.proofs.Fills.{remove-split}
-use Rattle.lists.proofs.Finds.{found-below, found-kept, none-kept}
-use Rattle.lists.proofs.Keep.{kept}
+use Rattle.events.specs.Called.{Answered, Ready, acceptedWith, refusedWith, stored}
+use Rattle.events.specs.Layers.{OpenAt, SendsTo}
+use Rattle.lists.proofs.Finds.{found-removed, none-kept}
 use Rattle.lists.proofs.Members.{mem-keep}
 use Rattle.lists.proofs.Places.{mapIf-at, without-at}
 use Rattle.lists.proofs.Tests.{byTest, eqb-same, no-true}
@@ -25,7 +24,7 @@ use Rattle.protocol.proofs.Room.{entry-room, one-entry, one-record, owner-there
 use Rattle.tables.proofs.Packs.{view-pack}
 use Rattle.tables.proofs.Stored.{entries-stored, records-stored}
 use Rattle.events.proofs.Changed.{entries-changed, records-changed, stored-again}
-use Rattle.events.proofs.Ways.{accepts, passes, read-count, read-entries, read-four, read-records, read-view, ready-stored, ready-view, refuses}
+use Rattle.events.proofs.Ways.{accepts, passes, read-count, read-entries, read-four, read-records, read-sized, read-up, read-view, ready-stored, ready-view, refuses}
 use Rattle.protocol.specs.Tables.{Model, changeRecords, closeRecord, enterName, entryBears, entryOf, inStage, messageOf, partition, queue, recordBears, send, setPartition, setStage, takeOutName, turnRecord, turned, withEntries, withRecords, Partition as Part}
 use Rattle.protocol.specs.declared.Stage.the-variants.{Cleared, Held, Ready as ReadyStage, Refused, Sent}
 use Rattle.lists.specs.declared.Found.{Found}
@@ -177,11 +176,11 @@ module _ (t : Tables) (z : Sized t) (r : Ready t) (p i : ℕ) (c : Record) (o : 
 
   -- the place is removed, or changed
   gone : removeAt i ls ≡ without (recordBears (c .number)) (partition m p .records)
-  gone = remove-split i ls ∙ sym (without-at (recordBears (c .number)) noRecord ls i inside bears sole) ∙ ap (λ (y : Part). without (recordBears (c .number)) (y .records)) (sym seen)
+  gone = without-at (recordBears (c .number)) noRecord ls i inside bears sole ∙ ap (λ (y : Part). without (recordBears (c .number)) (y .records)) (sym seen)
 
   changed : (u : Record → Record) → set ls i (u c) ≡ mapIf (recordBears (c .number)) u (partition m p .records)
   changed u =
-      ap (λ (y : Record). set ls i (u y)) (sym here) ∙ sym (mapIf-at (recordBears (c .number)) noRecord u ls i inside bears sole)
+      ap (λ (y : Record). set ls i (u y)) (sym here) ∙ mapIf-at (recordBears (c .number)) noRecord u ls i inside bears sole
       ∙ ap (λ (y : Part). mapIf (recordBears (c .number)) u (y .records)) (sym seen)
 
   packed : t ≡ pack m
@@ -213,7 +212,7 @@ module _ (t : Tables) (z : Sized t) (r : Ready t) (p i : ℕ) (c : Record) (o : 
   enter-room h =
       let y = entering (c .kind) (c .stage) _ _ h in
       let n : length (partition m p .entries) < maxEntries = entry-room m (r .order) p (c .number) c [] found (y .0) (none-of _ (y .1)) in
-      let s : length (x .entries .items) ≡ maxEntries = rw e (z .partition p (read-four t p z r (o .partition)) .entries) in
+      let s = read-sized t p z r (o .partition) x e .entries in
       let k : length (partition m p .entries) ≡ x .entries .count = rw seen (length-take-le (x .entries .count) (x .entries .items) (omega (arith, step-entries-most))) in
       omega arith
 
@@ -238,15 +237,9 @@ module _ (t : Tables) (z : Sized t) (r : Ready t) (p i : ℕ) (c : Record) (o : 
     unfolding perform
     out-found j l w a q hl hw ha =
         let es : List Entry = entriesOf (x .entries) in
-        let b = found-below (entryBears (c .number)) (x .entries .items) (x .entries .count) j f g q noEntry in
-        let k = found-kept (entryBears (c .number)) (x .entries .items) (x .entries .count) j f g q noEntry in
-        let s : length (x .entries .items) ≡ maxEntries = rw e (z .partition p (read-four t p z r (o .partition)) .entries) in
-        let len : length es ≡ x .entries .count = length-take-le (x .entries .count) (x .entries .items) (omega (arith, step-entries-most)) in
-        let v : getD es j noEntry ≡ getD (x .entries .items) j noEntry = getD-take (x .entries .count) (x .entries .items) j noEntry b in
-        let y : entryBears (c .number) (getD es j noEntry) ≡ true = rw v (kept (entryBears (c .number)) es _ (k .0) (k .1)) in
         let u : length (keep (entryBears (c .number)) es) ≤ 1 = subst (λ (q : Part). length (keep (entryBears (c .number)) (q .entries)) ≤ 1) seen (one-entry m (r .order) p (c .number)) in
         let d : removeAt j es ≡ without (entryBears (c .number)) (partition m p .entries) =
-        remove-split j es ∙ sym (without-at (entryBears (c .number)) noEntry es j (rw len b) y u) ∙ ap (λ (q : Part). without (entryBears (c .number)) (q .entries)) (sym seen)
+        found-removed (entryBears (c .number)) noEntry es j (sym g ∙ q) u ∙ ap (λ (q : Part). without (entryBears (c .number)) (q .entries)) (sym seen)
         in
         let h : w ≡ pack (takeOutName m p (c .number)) = entries-changed m p t w packed (without (entryBears (c .number))) l (hl ∙ ap packEntries d) hw in
         ha ∙ accepts t w (c .number) Done _ h
@@ -308,7 +301,7 @@ module _ (t : Tables) (z : Sized t) (r : Ready t) (p i : ℕ) (c : Record) (o : 
 
   module _ (q : ℕ) (s : SendsTo t p c q) (y : Partition) (v : y ≡ partitionAt t q) where
     up-there : partition (view t) (c .partition) .up ≡ y .up
-    up-there = ap (λ (j : ℕ). partition (view t) j .up) (sym (s .owner)) ∙ ap (λ (j : Part). j .up) (read-view t q z r (s .there) y v)
+    up-there = ap (λ (j : ℕ). partition (view t) j .up) (sym (s .owner)) ∙ read-up t q z r (s .there) y v
 
     pub send-down : (a : Answered) → y .up ≡ false → a ≡ refusedWith t TowardsDown → a ≡ stored t (perform (view t) p c Sends)
     unfolding perform

@@ -24,12 +24,13 @@ use Rattle.tables.specs.View.{Sized, entriesOf, pack, packRecords, partitionAt,
 use Rattle.tables.specs.declared.Partition.{Partition}
 use Rattle.tables.specs.declared.Records.{Records}
 use Rattle.tables.specs.declared.Tables.{Tables}
-use Rattle.events.specs.Called.{Answered, Opens, Placed, Ready, acceptedWith, askInRange, refusedWith, stored}
+use Rattle.events.specs.Called.{Answered, Ready, acceptedWith, refusedWith, stored}
+use Rattle.events.specs.Layers.{Opens, Placed, askInRange}
 use Rattle.lists.proofs.Tests.{and-left, and-right, every-at}
 use Rattle.protocol.proofs.Look.{part-same}
 use Rattle.tables.proofs.Stored.{records-stored}
 use Rattle.events.proofs.Changed.{records-changed}
-use Rattle.events.proofs.Ways.{read-count, ready-stored, accepts, passes, read-view, ready-count, ready-view, refuses}
+use Rattle.events.proofs.Ways.{accepts, passes, read-count, read-up, read-view, ready-count, ready-stored, ready-view, refuses}
 
 module _ (t : Tables) (z : Sized t) (r : Ready t) (k : Kind) (p d : ℕ) (s : Name) (q o : ℕ) where
   -- ---- by the arguments
@@ -61,16 +62,13 @@ module _ (t : Tables) (z : Sized t) (r : Ready t) (k : Kind) (p d : ℕ) (s : Na
   ask-misnamed a c g f h = h ∙ refuses t _ BadName _ _ refl (sym g ∙ f) ∙ passes t _ OutOfRange _ _ (y .test)
 
   module _ (a : Answered) (c : Bool) (g : c ≡ goodName s) (n : c ≡ true) (x : Partition) (w : x ≡ partitionAt t p) where
-    up-view : partition (view t) p .up ≡ x .up
-    up-view = ap (λ (i : Part). i .up) (read-view t p z r (y .partition) x w)
-
     pub ask-down : x .up ≡ false → a ≡ refusedWith t Down → a ≡ stored t (ask k (view t) p d s q o)
     unfolding ask
-    ask-down u h = h ∙ refuses t _ Down _ _ refl (up-view ∙ u) ∙ passes t _ BadName _ _ (sym g ∙ n) ∙ passes t _ OutOfRange _ _ (y .test)
+    ask-down u h = h ∙ refuses t _ Down _ _ refl (read-up t p z r (y .partition) x w ∙ u) ∙ passes t _ BadName _ _ (sym g ∙ n) ∙ passes t _ OutOfRange _ _ (y .test)
 
     pub ask-goes : x .up ≡ true → (d′ q′ o′ : ℕ) → d′ ≡ d → q′ ≡ q → o′ ≡ o → a ≡ stored t (askTables k (view t) p d′ s q′ o′) → a ≡ stored t (ask k (view t) p d s q o)
     unfolding ask
-    ask-goes u d′ q′ o′ i j l h = (rw (i, j, l) at h) ∙ passes t _ Down _ _ (up-view ∙ u) ∙ passes t _ BadName _ _ (sym g ∙ n) ∙ passes t _ OutOfRange _ _ (y .test)
+    ask-goes u d′ q′ o′ i j l h = (rw (i, j, l) at h) ∙ passes t _ Down _ _ (read-up t p z r (y .partition) x w ∙ u) ∙ passes t _ BadName _ _ (sym g ∙ n) ∙ passes t _ OutOfRange _ _ (y .test)
 
 pub ruleset askplaces = (ask-misnamed, ask-down, ask-goes)
 

@@ -1,7 +1,7 @@
 -- A store in tables that are the stored form of a model is the stored form of that model's change.
 use mathlib.Core.List.{List, [], _++_, _∷_, map}
-use mathlib.Core.Path.{_∙_, _≡_, ap, refl, sym}
-use Prim.Native.Nat.{_*_, _+_, _<_, _≤_, suc, zero, ℕ}
+use mathlib.Core.Path.{_∙_, _≡_, ap, sym}
+use Prim.Native.Nat.{_*_, _+_, _<_, _≤_, ℕ}
 use native.Mathlib.Omega.{arith}
 use lib.ListN.{List·getD-map, getD, length, length-map, length-set}
 use Rattle.lists.specs.Lists.{removeAt}
@@ -9,6 +9,7 @@ use Rattle.protocol.specs.Bounds.{maxBackpointers, maxEntries, maxMessages, max
 use Rattle.tables.specs.Slots.{zeroBackpointer, zeroEntry, zeroMessage, zeroRecord}
 use Rattle.tables.specs.View.{Sized, Stored, backpointersOf, entriesOf, messagesOf, noQueue, pack, packBackpointers, packEntries, packQueue, packRecords, queueAt, recordsOf, view}
 use Rattle.lists.proofs.Fills.{take-pad}
+use Rattle.lists.proofs.Images.{map-at}
 use Rattle.tables.proofs.Packs.{view-pack}
 use Rattle.tables.proofs.Views.{queue-view}
 use Rattle.protocol.specs.Tables.{Model, changeBackpointers, changeEntries, changeRecords, partition, queue, send, setPartition, setQueue, withBackpointers, withEntries, withRecords, Partition as Part}
@@ -83,12 +84,6 @@ module _ (m : Model) (p : ℕ) (u w : Tables) (e : u ≡ pack m) where
       ∙ ap (λ (k : List Message). pack (setQueue m p r k)) (ap messagesOf h ∙ take-pad maxMessages zeroMessage _)
 
 -- ---- the queue from a to b, which was read as y
-
--- a place of an image, whatever stands past the end
-map-at : {A B : Type 0} (f : A → B) (l : List A) (i : ℕ) (d : B) (e : A) → i < length l → getD (map f l) i d ≡ f (getD l i e)
-map-at f [] i d e h = absurd (omega arith)
-map-at f (x ∷ l) zero d e h = refl
-map-at f (x ∷ l) (suc i) d e h = map-at f l i d e (omega arith)
 
 module _ (t : Tables) (z : Sized t) (a b : ℕ) (s : Stored t a) (r : Stored t b) (y : Queue) (v : y ≡ queueAt t (a * maxPartitions + b)) where
   held : messagesOf y ≡ queue (view t) a b

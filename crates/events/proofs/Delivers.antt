@@ -4,14 +4,14 @@ use mathlib.Core.List.{List, [], _∷_}
 use mathlib.Core.Path.{_∙_, _≡_, ap, refl, sym}
 use Prim.Native.Nat.{_*_, _+_, _<_, _≤_, ℕ}
 use native.Mathlib.Omega.{arith}
-use borrow.Author.Tests.{lt-ltb, ltb-true}
+use borrow.Author.Tests.{ltb-true}
 use lib.Dec.{ltb}
 use lib.ListN.{getD, length, take}
 use lib.Seq.{getD-take, length-take-le}
 use Rattle.lists.specs.Lists.{removeAt}
 use Rattle.protocol.specs.Bounds.{maxMessages, maxPartitions}
 use Rattle.protocol.specs.Deliver.{deliver, deliverOldest, receive}
-use Rattle.protocol.specs.Tables.{Model, isPartition, partition, queue, setQueue, Partition as Part}
+use Rattle.protocol.specs.Tables.{Model, isPartition, partition, queue, setQueue}
 use Rattle.protocol.specs.declared.Message.{Message}
 use Rattle.protocol.specs.declared.Refusal.the-variants.{Down, OutOfRange, QueueEmpty}
 use Rattle.protocol.specs.declared.Reply.the-variants.{None}
@@ -20,7 +20,8 @@ use Rattle.tables.specs.View.{Sized, Stored, messagesOf, pack, partitionAt, que
 use Rattle.tables.specs.declared.Partition.{Partition}
 use Rattle.tables.specs.declared.Queue.{Queue}
 use Rattle.tables.specs.declared.Tables.{Tables}
-use Rattle.events.specs.Called.{Answered, Ready, Received, acceptedWith, refusedWith, stored}
+use Rattle.events.specs.Called.{Answered, Ready, acceptedWith, refusedWith, stored}
+use Rattle.events.specs.Layers.{Received}
 use Rattle.lists.proofs.Tests.{and-left, and-right, both-true}
 use Rattle.lists.proofs.Tidies.{tidy-count}
 use Rattle.protocol.proofs.Numbers.{part-queue}
@@ -28,7 +29,7 @@ use Rattle.protocol.proofs.Room.{answer-room, one-record, one-removed}
 use Rattle.tables.proofs.Packs.{shaped-all, view-pack}
 use Rattle.tables.proofs.Views.{queue-view}
 use Rattle.events.proofs.Changed.{stored-queued}
-use Rattle.events.proofs.Ways.{accepts, passes, read-four, read-view, ready-stored, ready-view, refuses}
+use Rattle.events.proofs.Ways.{accepts, passes, read-four, read-up, ready-stored, ready-there, ready-view, refuses}
 
 -- a list by its first element
 split : {A : Type 0} (l : List A) (d : A) → 0 < length l → l ≡ getD l 0 d ∷ removeAt 0 l
@@ -116,22 +117,16 @@ module _ (t : Tables) (z : Sized t) (o : Ready t) (s r : ℕ) (hs : s < t .count
 
   -- the receiver y is up, or down
   module _ (y : Partition) (e : y ≡ partitionAt t r) where
-    up-view : partition m r .up ≡ y .up
-    up-view = ap (λ (p : Part). p .up) (read-view t r z o hr y e)
-
     both-there : (isPartition m s && isPartition m r) ≡ true
-    both-there =
-        let a : isPartition m s ≡ true = rw (ready-view t z o) (lt-ltb _ _ hs) in
-        let b : isPartition m r ≡ true = rw (ready-view t z o) (lt-ltb _ _ hr) in
-        both-true a b
+    both-there = both-true (ready-there t s z o hs) (ready-there t r z o hr)
 
     pub deliver-down : (a : Answered) → y .up ≡ false → a ≡ refusedWith t Down → a ≡ stored t (deliver (view t) s r)
     unfolding deliver
-    deliver-down a u k = k ∙ refuses t _ Down _ _ refl (up-view ∙ u) ∙ passes t _ OutOfRange _ _ both-there
+    deliver-down a u k = k ∙ refuses t _ Down _ _ refl (read-up t r z o hr y e ∙ u) ∙ passes t _ OutOfRange _ _ both-there
 
     pub deliver-goes : (a : Answered) → y .up ≡ true → a ≡ stored t (deliverOldest (view t) s r (queue (view t) s r)) → a ≡ stored t (deliver (view t) s r)
     unfolding deliver
-    deliver-goes a u k = k ∙ passes t _ Down _ _ (up-view ∙ u) ∙ passes t _ OutOfRange _ _ both-there
+    deliver-goes a u k = k ∙ passes t _ Down _ _ (read-up t r z o hr y e ∙ u) ∙ passes t _ OutOfRange _ _ both-there
 
 pub ruleset oldests = (from-stored, to-stored, queue-bound, nothing-there, queue-filled, received, delivered)
 

@@ -8,6 +8,5 @@ pub mod Calls
 pub mod Verdicts
 pub mod Receives
 pub mod Delivers
-pub mod Mapped
 pub mod Loses
 pub mod Faulty

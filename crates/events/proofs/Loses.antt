@@ -18,21 +18,12 @@ use Rattle.tables.specs.declared.Partition.{Partition}
 use Rattle.tables.specs.declared.Queue.{Queue}
 use Rattle.tables.specs.declared.Records.{Records}
 use Rattle.tables.specs.declared.Tables.{Tables}
-use Rattle.events.specs.Called.{Loss, Ready, emptiesOf, relapsesOf}
+use Rattle.events.specs.Called.{Ready}
+use Rattle.events.specs.Layers.{Loss, emptiesOf, relapsesOf}
 use Rattle.lists.proofs.Keep.{length-mapFrom, length-mapIf}
 use Rattle.tables.proofs.Packs.{pack-view, partition-pack, partition-unpack, shaped-all}
-use Rattle.events.proofs.Mapped.{Mapping, map-mapFrom, mapIf-from, mapping-all, mapping-end, mapping-keep, mapping-start, mapping-turn}
+use Rattle.lists.proofs.Mapped.{Mapping, map-mapFrom, mapIf-from, mapping-all, mapping-end, mapping-keep, mapping-start, mapping-turn}
 use Rattle.events.proofs.Ways.{read-four, ready-count, ready-view}
-
--- one of two, by a test b of which a contract says what it is
-module _ {A : Type 0} (p b : Bool) (x y : A) (e : b ≡ p) where
-  pub pick-yes : (v : A) → b ≡ true → v ≡ x → v ≡ pick p x y
-  pick-yes v f h = h ∙ rw (← e, f) refl
-
-  pub pick-no : b ≡ false → y ≡ pick p x y
-  pick-no f = rw (← e, f) refl
-
-pub ruleset picks = (pick-yes, pick-no)
 
 -- ---- what is in its stored form
 

@@ -1,10 +1,9 @@
 -- What a received message does to stored tables, in plain variables.
-use mathlib.Core.Bool.{Bool, true}
-use mathlib.Core.List.{List, [], _++_, _∷_, nil≢cons}
+use mathlib.Core.List.{List, [], _++_, _∷_}
 use mathlib.Core.Path.{_∙_, _≡_, ap, refl, subst, sym}
 use Prim.Native.Nat.{_-_, _<_, _≤_, ℕ}
 use native.Mathlib.Omega.{arith}
-use lib.ListN.{getD, length, length-append, length-take, replicate, set, take}
+use lib.ListN.{getD, length, length-append, replicate, set}
 use lib.Seq.{getD-take}
 use Rattle.lists.specs.Lists.{firstAt, keep, mapIf, pad, removeAt, without}
 use Rattle.lists.specs.declared.Found.{Found}
@@ -27,12 +26,9 @@ use Rattle.tables.specs.declared.Backpointers.{Backpointers}
 use Rattle.tables.specs.declared.Partition.{Partition}
 use Rattle.tables.specs.declared.Records.{Records}
 use Rattle.tables.specs.declared.Tables.{Tables}
-use Rattle.events.specs.Called.{Answers, Lands, OneExactly, Received}
-use Rattle.lists.proofs.Fills.{remove-split}
-use Rattle.lists.proofs.Finds.{First, first-kept, none-kept}
-use Rattle.lists.proofs.Keep.{keep-cons-other, keep-cons-same, kept}
-use Rattle.lists.proofs.Places.{mapIf-at, without-at}
-use Rattle.lists.proofs.Tests.{byTest}
+use Rattle.events.specs.Layers.{Answers, Lands, OneExactly, Received}
+use Rattle.lists.proofs.Finds.{found-below, found-changed, found-removed, none-kept}
+use Rattle.lists.proofs.Places.{nothing-left}
 use Rattle.protocol.proofs.Numbers.{queue-part}
 use Rattle.tables.proofs.Packs.{view-pack}
 use Rattle.tables.proofs.Stored.{backpointers-stored, records-stored}
@@ -40,54 +36,15 @@ use Rattle.tables.proofs.Views.{partition-there}
 use Rattle.events.proofs.Changed.{backpointers-changed, records-changed, stored-again}
 use Rattle.events.proofs.Verdicts.{adds-below}
 
--- ---- lists: what a search found is removed or changed, or nothing is
-
-module _ {A : Type 0} (f : A → Bool) where
-  none-removed : (l : List A) → keep f l ≡ [] → without f l ≡ l
-  unfolding without
-  none-removed [] h = refl
-  none-removed (x ∷ l) h =
-      byTest (f x)
-      (λ t. absurd (nil≢cons (sym h ∙ keep-cons-same f l x t)))
-      (λ t. rw (t, without) (ap (λ k. x ∷ k) (none-removed l (sym (keep-cons-other f l x t) ∙ h))))
-
-  none-changed : (u : A → A) (l : List A) → keep f l ≡ [] → mapIf f u l ≡ l
-  unfolding mapIf
-  none-changed u [] h = refl
-  none-changed u (x ∷ l) h =
-      byTest (f x)
-      (λ t. absurd (nil≢cons (sym h ∙ keep-cons-same f l x t)))
-      (λ t. rw t (ap (λ k. x ∷ k) (none-changed u l (sym (keep-cons-other f l x t) ∙ h))))
-
-  -- the only one that passes was found at i
-  module _ (d : A) (l : List A) (i : ℕ) (e : firstAt f l ≡ At i) (one : length (keep f l) ≤ 1) where
-    first : First f 0 i l d
-    first = first-kept f 0 i l d e
-
-    place : first .steps ≡ i
-    place = omega (arith, first .there)
-
-    inside : i < length l
-    inside = rw (← place) (first .inside)
-
-    passes : f (getD l i d) ≡ true
-    passes = rw (← place) (kept f l _ (first .rest) (first .kept))
-
-    one-removed : removeAt i l ≡ without f l
-    one-removed = remove-split i l ∙ sym (without-at f d l i inside passes one)
-
-    one-changed : (u : A → A) → set l i (u (getD l i d)) ≡ mapIf f u l
-    one-changed u = sym (mapIf-at f d u l i inside passes one)
-
 -- ---- a list without what a request to remove is about
 
 module _ (l : Backpointers) (s : ℕ) (x : Message) (f : Found) (e : f ≡ firstAt (isExactly s x) (backpointersOf l)) where
   pub exactly-none : packBackpointers (backpointersOf l) ≡ l → f ≡ Nothing → l ≡ packBackpointers (without (isExactly s x) (backpointersOf l))
-  exactly-none p q = sym p ∙ ap packBackpointers (sym (none-removed (isExactly s x) (backpointersOf l) (none-kept (isExactly s x) 0 (backpointersOf l) (sym e ∙ q))))
+  exactly-none p q = sym p ∙ ap packBackpointers (sym (nothing-left (isExactly s x) noBackpointer (backpointersOf l) (rw (none-kept (isExactly s x) 0 (backpointersOf l) (sym e ∙ q)) (omega arith)) .0))
 
   pub exactly-at : (i : ℕ) (k : Backpointers) → f ≡ At i → k ≡ packBackpointers (removeAt i (backpointersOf l))
       → length (keep (isExactly s x) (backpointersOf l)) ≤ 1 → k ≡ packBackpointers (without (isExactly s x) (backpointersOf l))
-  exactly-at i k q h o = h ∙ ap packBackpointers (one-removed (isExactly s x) noBackpointer (backpointersOf l) i (sym e ∙ q) o)
+  exactly-at i k q h o = h ∙ ap packBackpointers (found-removed (isExactly s x) noBackpointer (backpointersOf l) i (sym e ∙ q) o)
 
 pub ruleset exactlies = (exactly-none, exactly-at)
 
@@ -95,19 +52,16 @@ pub ruleset exactlies = (exactly-none, exactly-at)
 
 module _ (l : Records) (n : ℕ) (g : Stage) (f : Found) (e : f ≡ firstAt (recordBears n) (recordsOf l)) where
   pub staged-none : packRecords (recordsOf l) ≡ l → f ≡ Nothing → l ≡ packRecords (mapIf (recordBears n) (inStage g) (recordsOf l))
-  staged-none p q = sym p ∙ ap packRecords (sym (none-changed (recordBears n) (inStage g) (recordsOf l) (none-kept (recordBears n) 0 (recordsOf l) (sym e ∙ q))))
+  staged-none p q = sym p ∙ ap packRecords (sym (nothing-left (recordBears n) noRecord (recordsOf l) (rw (none-kept (recordBears n) 0 (recordsOf l) (sym e ∙ q)) (omega arith)) .1 (inStage g)))
 
   pub staged-at : (i : ℕ) (k : Records) (c c′ : Record) → f ≡ At i → c ≡ getD (l .items) i noRecord → c′ ≡ inStage g c
       → k ≡ packRecords (set (recordsOf l) i c′) → length (keep (recordBears n) (recordsOf l)) ≤ 1
       → k ≡ packRecords (mapIf (recordBears n) (inStage g) (recordsOf l))
   staged-at i k c c′ q r h p o =
-      let b : i < length (take (l .count) (l .items)) = inside (recordBears n) noRecord (recordsOf l) i (sym e ∙ q) o in
-      let v : c ≡ getD (recordsOf l) i noRecord = r ∙ sym (read-taken (l .count) (l .items) i noRecord b) in
+      let b : i < l .count = found-below (recordBears n) (l .items) (l .count) i f e q noRecord in
+      let v : c ≡ getD (recordsOf l) i noRecord = r ∙ sym (getD-take (l .count) (l .items) i noRecord b) in
       p ∙ ap (λ (y : Record). packRecords (set (recordsOf l) i y)) (h ∙ ap (inStage g) v)
-      ∙ ap packRecords (one-changed (recordBears n) noRecord (recordsOf l) i (sym e ∙ q) o (inStage g))
-    where
-      read-taken : (m : ℕ) (xs : List Record) (j : ℕ) (d : Record) → j < length (take m xs) → getD (take m xs) j d ≡ getD xs j d
-      read-taken m xs j d h = getD-take m xs j d (omega (arith, length-take m xs))
+      ∙ ap packRecords (found-changed (recordBears n) noRecord (recordsOf l) i (sym e ∙ q) o (inStage g))
 
 -- places that are found are below 64
 pub few-records : (n : ℕ) → n ≤ maxRecords → n ≤ 64

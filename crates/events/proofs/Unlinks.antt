@@ -25,11 +25,12 @@ use Rattle.tables.specs.View.{Sized, entriesOf, pack, packRecords, partitionAt,
 use Rattle.tables.specs.declared.Partition.{Partition}
 use Rattle.tables.specs.declared.Records.{Records}
 use Rattle.tables.specs.declared.Tables.{Tables}
-use Rattle.events.specs.Called.{Answered, PlacedIn, Ready, acceptedWith, inDirectory, refusedWith, stored}
+use Rattle.events.specs.Called.{Answered, Ready, acceptedWith, refusedWith, stored}
+use Rattle.events.specs.Layers.{PlacedIn, inDirectory}
 use Rattle.lists.proofs.Finds.{found-kept, none-kept}
 use Rattle.lists.proofs.Tests.{and-left, and-right}
 use Rattle.events.proofs.Changed.{records-changed}
-use Rattle.events.proofs.Ways.{accepts, passes, read-count, read-view, ready-count, ready-stored, ready-view, refuses}
+use Rattle.events.proofs.Ways.{accepts, passes, read-count, read-up, read-view, ready-count, ready-stored, ready-view, refuses}
 
 -- ---- by the arguments
 
@@ -56,16 +57,13 @@ module _ (t : Tables) (z : Sized t) (r : Ready t) (p d : ℕ) (s : Name) (y : Pl
   unlink-misnamed a c g f h = h ∙ refuses t _ BadName _ _ refl (sym g ∙ f) ∙ passes t _ OutOfRange _ _ (y .test)
 
   module _ (a : Answered) (c : Bool) (g : c ≡ goodName s) (n : c ≡ true) (x : Partition) (w : x ≡ partitionAt t p) where
-    up-view : partition (view t) p .up ≡ x .up
-    up-view = ap (λ (i : Part). i .up) (read-view t p z r (y .partition) x w)
-
     pub unlink-down : x .up ≡ false → a ≡ refusedWith t Down → a ≡ stored t (unlink (view t) p d s)
     unfolding unlink
-    unlink-down u h = h ∙ refuses t _ Down _ _ refl (up-view ∙ u) ∙ passes t _ BadName _ _ (sym g ∙ n) ∙ passes t _ OutOfRange _ _ (y .test)
+    unlink-down u h = h ∙ refuses t _ Down _ _ refl (read-up t p z r (y .partition) x w ∙ u) ∙ passes t _ BadName _ _ (sym g ∙ n) ∙ passes t _ OutOfRange _ _ (y .test)
 
     pub unlink-goes : x .up ≡ true → (d′ : ℕ) → d′ ≡ d → a ≡ stored t (unlinkFound (view t) p (keep (standsUnder d′ s) (partition (view t) p .entries))) → a ≡ stored t (unlink (view t) p d s)
     unfolding unlink
-    unlink-goes u d′ i h = (rw i at h) ∙ passes t _ Down _ _ (up-view ∙ u) ∙ passes t _ BadName _ _ (sym g ∙ n) ∙ passes t _ OutOfRange _ _ (y .test)
+    unlink-goes u d′ i h = (rw i at h) ∙ passes t _ Down _ _ (read-up t p z r (y .partition) x w ∙ u) ∙ passes t _ BadName _ _ (sym g ∙ n) ∙ passes t _ OutOfRange _ _ (y .test)
 
 pub ruleset unlinkplaces = (unlink-misnamed, unlink-down, unlink-goes)
 

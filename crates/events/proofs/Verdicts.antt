@@ -67,16 +67,6 @@ pub ruleset additions = (link-idle, link-used, create-idle, create-used, unlink-
 
 -- ---- the place is looked for, or the back-pointer itself
 
--- one of two, by a test that was computed
-module _ (p b : Bool) (e : b ≡ p) (y n : Verdict) where
-  pub picks-first : b ≡ true → y ≡ pick p y n
-  picks-first t = rw (← e, t) refl
-
-  pub picks-second : b ≡ false → n ≡ pick p y n
-  picks-second t = rw (← e, t) refl
-
-pub ruleset picks = (picks-first, picks-second)
-
 module _ (xs : List Backpointer) (n s : ℕ) (x : Message) (f : Found) where
   module _ (e : f ≡ firstAt (inItsPlace s x) (take n xs)) (other v : Verdict) where
     pub place-free : f ≡ Nothing → v ≡ other → v ≡ placeVerdict x (keep (inItsPlace s x) (take n xs)) other

@@ -3,17 +3,19 @@ use mathlib.Core.Bool.{Bool, _&&_, false, true}
 use mathlib.Core.Path.{_∙_, _≡_, ap, refl, sym}
 use Prim.Native.Nat.{_<_, _≤_, ℕ}
 use native.Mathlib.Omega.{arith}
+use lib.Dec.{ltb}
 use lib.ListN.{length}
 use lib.Seq.{length-take-le}
+use borrow.Author.Tests.{lt-ltb}
 use Rattle.protocol.specs.Answers.{Outcome, accept, check}
 use Rattle.protocol.specs.Bounds.{maxBackpointers, maxEntries, maxPartitions, maxRecords}
 use Rattle.protocol.specs.Elements.{isAccepted}
 use Rattle.protocol.specs.Order.{inOrder}
-use Rattle.protocol.specs.Tables.{Model, partition, partitionCount}
+use Rattle.protocol.specs.Tables.{Model, isPartition, partition, partitionCount, Partition as Part}
 use Rattle.protocol.specs.declared.Refusal.{Refusal}
 use Rattle.protocol.specs.declared.Refusal.the-variants.{OutOfOrder}
 use Rattle.protocol.specs.declared.Reply.{Reply}
-use Rattle.tables.specs.View.{Sized, Stored, pack, partitionAt, shaped, view, viewPartition}
+use Rattle.tables.specs.View.{Ranged, Sized, SizedPartition, Stored, pack, partitionAt, shaped, view, viewPartition}
 use Rattle.tables.specs.declared.Partition.{Partition}
 use Rattle.tables.specs.declared.Tables.{Tables}
 use Rattle.events.specs.Called.{Answered, Ready, acceptedWith, refusedWith, stored, tested}
@@ -35,24 +37,38 @@ ready-view t z r = count-view t z (ready-count t z r)
 pub read-four : (t : Tables) (p : ℕ) → Sized t → Ready t → p < t .count → p < maxPartitions
 read-four t p z r h = let a = ready-count t z r in omega arith
 
+-- whether partition p is there; b is the test
+pub ready-test : (t : Tables) (p : ℕ) → Sized t → Ready t → (b : Bool) → b ≡ ltb p (t .count) → isPartition (view t) p ≡ b
+ready-test t p z r b e = rw (ready-view t z r) (sym e)
+
+pub ready-there : (t : Tables) (p : ℕ) → Sized t → Ready t → p < t .count → isPartition (view t) p ≡ true
+ready-there t p z r h = ready-test t p z r true (sym (lt-ltb _ _ h))
+
 -- of the partition x that was read at p
 module _ (t : Tables) (p : ℕ) (z : Sized t) (r : Ready t) (h : p < t .count) (x : Partition) (e : x ≡ partitionAt t p) where
   pub read-view : partition (view t) p ≡ viewPartition x
   read-view = partition-there t p h ∙ ap viewPartition (sym e)
 
+  pub read-up : partition (view t) p .up ≡ x .up
+  read-up = ap (λ (y : Part). y .up) read-view
+
+  pub read-ranged : Ranged x
+  read-ranged = rw e (ranged (partitionAt t p) (shaped-all t z (r .shaped) .partition p (read-four t p z r h)))
+
   pub read-entries : x .entries .count ≤ maxEntries
-  read-entries = rw e (ranged (partitionAt t p) (shaped-all t z (r .shaped) .partition p (read-four t p z r h)) .entries)
+  read-entries = read-ranged .entries
 
   pub read-backpointers : x .backpointers .count ≤ maxBackpointers
-  read-backpointers = rw e (ranged (partitionAt t p) (shaped-all t z (r .shaped) .partition p (read-four t p z r h)) .backpointers)
+  read-backpointers = read-ranged .backpointers
 
   pub read-records : x .records .count ≤ maxRecords
-  read-records = rw e (ranged (partitionAt t p) (shaped-all t z (r .shaped) .partition p (read-four t p z r h)) .records)
+  read-records = read-ranged .records
+
+  pub read-sized : SizedPartition x
+  read-sized = rw e (z .partition p (read-four t p z r h))
 
   pub read-count : length (partition (view t) p .records) ≡ x .records .count
-  read-count =
-      let a : length (x .records .items) ≡ maxRecords = rw e (z .partition p (read-four t p z r h) .records) in
-      rw read-view (length-take-le (x .records .count) (x .records .items) (omega (arith, read-records)))
+  read-count = rw read-view (length-take-le (x .records .count) (x .records .items) (omega (arith, read-records, read-sized .records)))
 
 -- ---- a refusal, and a passed test
 

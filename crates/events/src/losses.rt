@@ -11,7 +11,8 @@ ghost use Rattle.protocol.specs.Faults.{between, drained, fallsWith, lose, rela
 ghost use Rattle.protocol.specs.Tables.{inStage};
 ghost use Rattle.protocol.specs.declared.Stage.the-variants.{Ready as ReadyStage};
 ghost use Rattle.tables.specs.View.{pack, packPartition, packQueue, packRecords, recordsOf, view, viewPartition, zeroPartition};
-ghost use Rattle.events.specs.Called.{Ready, emptiesOf, relapsesOf};
+ghost use Rattle.events.specs.Called.{Ready};
+ghost use Rattle.events.specs.Layers.{emptiesOf, relapsesOf};
 use crate::step;
 use protocol::Record;
 use protocol::Stage;

@@ -11,7 +11,8 @@ ghost use Rattle.protocol.specs.Tables.{inStage, partition, queue, recordBears,
 ghost use Rattle.protocol.specs.declared.Kind.the-variants.{Link};
 ghost use Rattle.protocol.specs.declared.Verdict.the-variants.{AddsIt, DropsIt};
 ghost use Rattle.tables.specs.View.{backpointersOf, pack, packBackpointers, packRecords, recordsOf, view};
-ghost use Rattle.events.specs.Called.{Answers, Lands, OneExactly, Ready, Received, stored};
+ghost use Rattle.events.specs.Called.{Ready, stored};
+ghost use Rattle.events.specs.Layers.{Answers, Lands, OneExactly, Received};
 use crate::Answered;
 use crate::accepted;
 use crate::queues;

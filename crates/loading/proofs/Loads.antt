@@ -26,7 +26,7 @@ use Rattle.loading.specs.Loaded.{loaded, replaced, shownBy}
 use Rattle.lists.proofs.Tests.{byTest}
 use Rattle.tables.proofs.Packs.{partition-unpack}
 use Rattle.events.proofs.Advances.{now-four, now-there}
-use Rattle.events.proofs.Ways.{now-ready, passes, read-view, ready-view, refuses, test-fails, test-passes}
+use Rattle.events.proofs.Ways.{now-ready, passes, read-up, ready-test, ready-view, refuses, test-fails, test-passes}
 
 -- ---- a picture that was read, with the header i and the tables y
 
@@ -40,16 +40,13 @@ module _ (t : Tables) (z : Sized t) (r : Ready t) (p : ℕ) (i : Head) (y : Part
     load-another f w = w ∙ refuses t _ FieldOutOfRange _ _ refl (fits ∙ f)
 
     module _ (f : b ≡ true) (h : p < t .count) (x : Partition) (g : x ≡ partitionAt t p) where
-      seen : partition (view t) p .up ≡ x .up
-      seen = ap (λ (q : Part). q .up) (read-view t p z r h x g)
-
       pub load-up : x .up ≡ true → a ≡ refusedWith t IsUp → a ≡ stored t (loadTables (view t) p (shownBy i y))
       unfolding loadTables
-      load-up u w = w ∙ refuses t _ IsUp _ _ refl (ap not (seen ∙ u)) ∙ passes t _ FieldOutOfRange _ _ (fits ∙ f)
+      load-up u w = w ∙ refuses t _ IsUp _ _ refl (ap not (read-up t p z r h x g ∙ u)) ∙ passes t _ FieldOutOfRange _ _ (fits ∙ f)
 
       pub load-down : x .up ≡ false → a ≡ stored t (replaced (view t) (setPartition (view t) p (viewPartition y))) → a ≡ stored t (loadTables (view t) p (shownBy i y))
       unfolding loadTables
-      load-down u w = w ∙ passes t _ IsUp _ _ (ap not (seen ∙ u)) ∙ passes t _ FieldOutOfRange _ _ (fits ∙ f)
+      load-down u w = w ∙ passes t _ IsUp _ _ (ap not (read-up t p z r h x g ∙ u)) ∙ passes t _ FieldOutOfRange _ _ (fits ∙ f)
 
 pub ruleset shows = (load-another, load-up, load-down)
 
@@ -95,7 +92,7 @@ module _ (t : Tables) (p : ℕ) (bs : List ℕ) (a : Answered) (b : Bool) (e : b
 
   module _ (z : Sized t) (f : b ≡ true) (c : Bool) (g : c ≡ ltb p (t .count)) where
     placed : isPartition (view t) p ≡ c
-    placed = rw (ready-view t z (now-ready t b e f)) (sym g)
+    placed = ready-test t p z (now-ready t b e f) c g
 
     pub load-unplaced : c ≡ false → a ≡ refusedWith t OutOfRange → a ≡ loaded t p bs
     load-unplaced n w = test-passes t b _ a e f (w ∙ refuses t _ OutOfRange _ _ refl (placed ∙ n)) ∙ sym joined

@@ -85,7 +85,8 @@ put-length h es bs rs a b c =
     let k : length (g ++ []) ≡ length g = ap length (append-nil g) in
     omega (arith, a, b, c, k, head-length h, close-length (counted (sections first) (es, (bs, (rs, tt)))), length-append (putRow (HD first) h) ((e ++ (f ++ (g ++ []))) ++ z), length-append (e ++ (f ++ (g ++ []))) z, length-append e (f ++ (g ++ [])), length-append f (g ++ []))
 
-good-eight : (s : Name) → goodName s ≡ true → Eight s
+-- a good name has them
+pub good-eight : (s : Name) → goodName s ≡ true → Eight s
 unfolding goodName
 good-eight s g = eqb-true _ _ (every-at _ g 2)
 

@@ -129,6 +129,12 @@ module _ {A : Type 0} (w : Row A) (lawful : Lawful (w .form)) where
         last false m h = ([], back-stop zero earlier bs ys r m h)
     many-only (suc n) earlier bs ys r a e = turn n earlier bs ys r a (λ q x l j. many-only n (earlier ++ x ∷ []) q ys r l j) (marked w bs) refl e
 
+-- one record more of a kind
+pub rows-more : {A : Type 0} (w : Row A) (xs : List A) (x : A) → putRows w (xs ++ x ∷ []) ≡ putRows w xs ++ putRow w x
+unfolding putRows
+rows-more w [] x = append-nil (putRow w x)
+rows-more w (y ∷ xs) x = ap (λ (l : List ℕ). putRow w y ++ l) (rows-more w xs x) ∙ sym (append-assoc (putRow w y) (putRows w xs) (putRow w x))
+
 -- behind records of another kind too, no record of this kind comes
 abbrev pub sameMark : {A B : Type 0} → Row A → Row B → Bool
 sameMark v w = eqb (w .first) (v .first) && eqb (w .second) (v .second)

@@ -10,6 +10,7 @@ use lib.ListN.{List·getD-eq-default, length}
 use borrow.Author.Tests.{eqb-true, ltb-false, ltb-true}
 use Rattle.lists.specs.Lists.{all, keep}
 use Rattle.protocol.specs.Answers.{Outcome, accepted}
+use Rattle.protocol.specs.Bounds.{maxPartitions}
 use Rattle.protocol.specs.Demands.{acceptedIn, isStep, openRecords}
 use Rattle.protocol.specs.Elements.{Answer, Record, isAccepted}
 use Rattle.protocol.specs.Events.{Event, answers, apply, bare}
@@ -20,7 +21,7 @@ use Rattle.lists.proofs.Sums.{by-number, sum, sum-ge, sum-le, sum-lt, sum-times
 use Rattle.lists.proofs.Tests.{and-left, and-right, byTest, eqb-same, hit}
 use Rattle.protocol.proofs.Applied.{apply-is, refused-keeps}
 use Rattle.protocol.proofs.Kept.{step-moves}
-use Rattle.protocol.proofs.Look.{Shape}
+use Rattle.protocol.proofs.Look.{Shape, four}
 use Rattle.protocol.proofs.Moves.{Moves}
 use Rattle.protocol.proofs.Numbers.{here}
 use Rattle.protocol.proofs.Shows.{no-last, whole-order}
@@ -29,13 +30,13 @@ use Rattle.protocol.proofs.Whole.{Fit, Moved, Whole, given, load, moved
 
 -- over the numbers below k
 weight : {m : Model} → Whole m → ℕ → ℕ
-weight w k = sum 4 (λ p. sum k (λ n. load (w .local p n)))
+weight w k = sum maxPartitions (λ p. sum k (λ n. load (w .local p n)))
 
-weight-le : {m : Model} (w : Whole m) (k : ℕ) → weight w k ≤ 8 * sum 4 (λ p. length (partition m p .records))
+weight-le : {m : Model} (w : Whole m) (k : ℕ) → weight w k ≤ 8 * sum maxPartitions (λ p. length (partition m p .records))
 unfolding weight
 weight-le {m} w k =
-    let a = sum-le 4 (λ p. sum k (λ n. load (w .local p n))) (λ p. 8 * length (partition m p .records)) (λ p h. row p) in
-    let b = sum-times 4 (λ p. length (partition m p .records)) in
+    let a = sum-le maxPartitions (λ p. sum k (λ n. load (w .local p n))) (λ p. 8 * length (partition m p .records)) (λ p h. row p) in
+    let b = sum-times maxPartitions (λ p. length (partition m p .records)) in
     omega arith
   where
     row : (p : ℕ) → sum k (λ n. load (w .local p n)) ≤ 8 * length (partition m p .records)
@@ -46,11 +47,11 @@ weight-le {m} w k =
         let c = by-number (λ (r : Record). r .number) k (partition m p .records) in
         omega arith
 
-weight-less : {m m′ : Model} {p n : ℕ} (w : Whole m) (x : Moved m m′ p n (load (w .local p n))) (k : ℕ) → p < 4 → n < k
+weight-less : {m m′ : Model} {p n : ℕ} (w : Whole m) (x : Moved m m′ p n (load (w .local p n))) (k : ℕ) → p < maxPartitions → n < k
     → weight (moved-whole w x) k < weight w k
 unfolding weight
 weight-less {p} {n} w x k hp hn =
-    sum-lt 4 _ _ (λ p′. sum-le k _ _ (λ n′ h. each p′ n′)) p hp
+    sum-lt maxPartitions _ _ (λ p′. sum-le k _ _ (λ n′ h. each p′ n′)) p hp
     (sum-lt k _ _ (each p) n hn (rw (moved-load w x p n, eqb-same p, eqb-same n) (x .less)))
   where
     each : (p′ n′ : ℕ) → load (moved-whole w x .local p′ n′) ≤ load (w .local p′ n′)
@@ -83,7 +84,7 @@ record Lighter (m′ : Model) (N w : ℕ) : Type 0 where
 lighter : (N : ℕ) {m m′ : Model} (g : Whole m) → Moves m m′ g → ((q : ℕ) → partition m q .last < N) → Lighter m′ N (weight g N)
 lighter N {m} g x h =
     let w : 0 < load (g .local (x .giver) (x .number)) = let l = x .moved .less in omega arith in
-    let p4 : x .giver < 4 = let a = inside g (x .giver) (x .number) w in let b = g .shape .partitions in omega arith in
+    let p4 : x .giver < maxPartitions = four (g .shape) (x .giver) (inside g (x .giver) (x .number) w) in
     let nN : x .number < N =
     byTest (ltb (partition m (x .giver) .last) (x .number))
     (λ t. absurd (given g (x .giver) (x .number) w (ltb-true _ _ t)))
@@ -117,20 +118,20 @@ steps-bound N (e ∷ es) m st g h =
     let d : hit (accepted (apply e m)) ≡ 0 = rw a refl in
     omega arith)
 
-below-sum : (m : Model) → Shape m → (q : ℕ) → partition m q .last < suc (sum 4 (λ p. partition m p .last))
+below-sum : (m : Model) → Shape m → (q : ℕ) → partition m q .last < suc (sum maxPartitions (λ p. partition m p .last))
 below-sum m s q =
-    byTest (ltb q 4)
-    (λ t. let a = sum-ge 4 (λ p. partition m p .last) q (ltb-true q 4 t) in omega arith)
-    (λ t. let a = no-last m q (let b = s .partitions in let c = ltb-false q 4 t in omega arith) in omega arith)
+    byTest (ltb q maxPartitions)
+    (λ t. let a = sum-ge maxPartitions (λ p. partition m p .last) q (ltb-true q maxPartitions t) in omega arith)
+    (λ t. let a = no-last m q (let b = s .partitions in let c = ltb-false q maxPartitions t in omega arith) in omega arith)
 
-records-sum : (m : Model) → Shape m → sum 4 (λ p. length (partition m p .records)) ≡ openRecords m
+records-sum : (m : Model) → Shape m → sum maxPartitions (λ p. length (partition m p .records)) ≡ openRecords m
 unfolding openRecords partition noPartition
-records-sum m s = total-sum (λ (x : Partition). length (x .records)) noPartition refl (m .partitions) 4 (s .partitions)
+records-sum m s = total-sum (λ (x : Partition). length (x .records)) noPartition refl (m .partitions) maxPartitions (s .partitions)
 
 pub bound : (es : List Event) (m : Model) → inOrder m ≡ true → all isStep es ≡ true → acceptedIn es m ≤ 8 * openRecords m
 bound es m o st =
     let g : Whole m = order-whole m o in
-    let N : ℕ = suc (sum 4 (λ p. partition m p .last)) in
+    let N : ℕ = suc (sum maxPartitions (λ p. partition m p .last)) in
     let a = steps-bound N es m st g (below-sum m (g .shape)) in
     let b = weight-le g N in
     let c = records-sum m (g .shape) in

@@ -9,6 +9,7 @@ use lib.ListN.{length}
 use borrow.Author.Tests.{eq-eqb, eqb-false, eqb-true, ne-eqb}
 use Rattle.lists.specs.Lists.{keep, mapIf, one, without}
 use Rattle.protocol.specs.Answers.{Outcome, check}
+use Rattle.protocol.specs.Bounds.{maxBackpointers}
 use Rattle.protocol.specs.Deliver.{isExactly}
 use Rattle.protocol.specs.Demands.{backpointerBears}
 use Rattle.protocol.specs.Elements.{Backpointer, Body, Entry, Kind, Message, Ready, Record, Refusal, Request, Sent, Unlink}
@@ -142,7 +143,7 @@ exactly-bears p x b f =
 -- back-pointers of p's number n come and go
 module _ (m : Model) (p n : ℕ) (c : Content) (s : Shape m) (hq : partition m (c .partition) .up ≡ true) where
   pub grow-else : keep (inPlace (c .object) p (c .directory) (c .name)) (partition m (c .partition) .backpointers) ≡ []
-      → length (partition m (c .partition) .backpointers) < 64 → Else m (changeBackpointers m (c .partition) (λ l. l ++ backpointerAt c n p ∷ [])) p n
+      → length (partition m (c .partition) .backpointers) < maxBackpointers → Else m (changeBackpointers m (c .partition) (λ l. l ++ backpointerAt c n p ∷ [])) p n
   grow-else ky hl = backs-else m p n (c .partition) s hq (λ l. l ++ backpointerAt c n p ∷ [])
       (neat-grow (partition m (c .partition)) (backpointerAt c n p) (ap length ky) hl)
       (λ p′ n′ e l. keep-snoc-other (backpointerBears p′ n′) l (backpointerAt c n p) (apart-about p n p′ n′ e p n (rw (eqb-same p, eqb-same n) refl)))

@@ -4,6 +4,7 @@ use mathlib.Core.List.{List}
 use mathlib.Core.Path.{_∙_, _≡_, sym}
 use Prim.Native.Nat.{_≤_, ℕ}
 use Rattle.lists.specs.Lists.{all}
+use Rattle.protocol.specs.Bounds.{maxPartitions}
 use Rattle.protocol.specs.Claims.{Cases, Decides, Ends, FailuresLast, OneOutcome, OrderKept, RefusalsKeep, Room, Safety, Settles, Settling}
 use Rattle.protocol.specs.Demands.{AllUp, isStep}
 use Rattle.protocol.specs.Events.{Event, apply, run}
@@ -18,7 +19,7 @@ use Rattle.protocol.proofs.Room.{answer-room, asked-room, entry-room, o
 use Rattle.protocol.proofs.Safe.{accounted, all-held}
 use Rattle.protocol.proofs.Settling.{settle-empties, settle-order, settle-refuses, settle-small, settle-takes, settle-untested, steps-empty}
 
-reached : (k : ℕ) → 1 ≤ k → k ≤ 4 → (es : List Event) → Reached (run es (fresh k))
+reached : (k : ℕ) → 1 ≤ k → k ≤ maxPartitions → (es : List Event) → Reached (run es (fresh k))
 reached k h₁ h₄ es = run-reached es (fresh k) (fresh-reached k h₁ h₄)
 
 pub order-kept : OrderKept

@@ -7,6 +7,7 @@ use lib.Dec.{eqb}
 use lib.ListN.{length}
 use Rattle.lists.specs.Lists.{keep, one}
 use Rattle.names.specs.Names.{goodName}
+use Rattle.protocol.specs.Bounds.{directories, maxPartitions, objects}
 use Rattle.protocol.specs.Elements.{Backpointer, Body, Entry, Kind, Message, Name, Record, Request, Stage, isReady}
 use Rattle.protocol.specs.Tables.{Model, partition, queue}
 use Rattle.protocol.proofs.Numbers.{Else, View, here}
@@ -43,8 +44,8 @@ letters c n p (home k t) a b = one (eqb a (c .partition) && eqb b p) (messageAt 
 -- the content is in range
 pub record Fine (m : Model) (c : Content) : Type 0 where
   pub partition : c .partition < length (m .partitions)
-  pub directory : c .directory < 4
-  pub object : c .object < 64
+  pub directory : c .directory < directories
+  pub object : c .object < objects
   pub name : goodName (c .name) ≡ true
 
 pub fine-else : {m m′ : Model} {c : Content} → length (m′ .partitions) ≡ length (m .partitions) → Fine m c → Fine m′ c
@@ -59,8 +60,8 @@ unready r = not (isReady (r .stage))
 
 pub record AtRest (m : Model) (p : ℕ) : Type 0 where
   pub ready : keep unready (partition m p .records) ≡ []
-  pub from : (q : ℕ) → q < 4 → queue m p q ≡ []
-  pub to : (q : ℕ) → p < 4 → queue m q p ≡ []
+  pub from : (q : ℕ) → q < maxPartitions → queue m p q ≡ []
+  pub to : (q : ℕ) → p < maxPartitions → queue m q p ≡ []
 
 abbrev pub DownsRest : Model → Type 0
 DownsRest m = (p : ℕ) → partition m p .up ≡ false → AtRest m p

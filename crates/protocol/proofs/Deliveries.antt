@@ -4,7 +4,6 @@ use mathlib.Core.List.{List, List·Memᴰ, [], _++_, _∷_}
 use mathlib.Core.Logic.{_⊎_, inl, inr}
 use mathlib.Core.Path.{_∙_, _≡_, ap, refl, subst, sym}
 use Prim.Native.Nat.{_<_, _≤_, ℕ}
-use native.Mathlib.Omega.{arith}
 use lib.Dec.{eqb, lit<}
 use lib.ListN.{length}
 use borrow.Author.Tests.{eqb-true}
@@ -21,7 +20,7 @@ use Rattle.lists.proofs.Tests.{both-true, byTest, eqb-same, no-true}
 use Rattle.protocol.proofs.Changes.{alter-else, alter-view, grow-else, home-else, home-view, out-else, out-view, say-else, say-view, shrink-else}
 use Rattle.protocol.proofs.Content.{Content, Fine, backpointerAt, fine-else, home, letters, messageAt, out, recordAt}
 use Rattle.protocol.proofs.Few.{answer-giver}
-use Rattle.protocol.proofs.Look.{Shape, part-other, part-same, up-in}
+use Rattle.protocol.proofs.Look.{Shape, part-other, part-same, up-four, up-in}
 use Rattle.protocol.proofs.Moves.{Moves, move}
 use Rattle.protocol.proofs.Neat.{neat-stage}
 use Rattle.protocol.proofs.Numbers.{Else, View, about, backs-view, else-trans}
@@ -146,9 +145,6 @@ module _ (m : Model) (p n : ℕ) (c : Content) (s : Shape m) (a b : ℕ) (ha : p
     (E : List Entry) (si : length E ≤ 1) (ef : (e : Entry) → List·Memᴰ e E → Fine m (ofEntry e))
     (B : ℕ → List Backpointer) (bf : (q : ℕ) (b : Backpointer) → List·Memᴰ b (B q) → Fine m (ofBackpointer q b))
     (x : Message) (l : List Message) (q : queue m a b ≡ x ∷ l) (is : about a b p n x ≡ true) where
-  four : b < 4
-  four = let k = s .partitions in let l = up-in m b hb in omega arith
-
   abbrev Goes : ℕ → Model → Type 0
   Goes w m′ = Moved m m′ p n w
 
@@ -180,12 +176,12 @@ module _ (m : Model) (p n : ℕ) (c : Content) (s : Shape m) (a b : ℕ) (ha : p
 
   deliver-in : (w : Way) → Sound m c w → View m p n E (recsOf c n w) B (letters c n p (mailOf w))
       → Goes (weigh E w) (receive (x .body) (setQueue m a b l) a b x)
-  deliver-in idle so v = none-in m p n c a b ha hb x l q is (Goes 0) (v .messages a b four)
-  deliver-in (rests k t) so v = none-in m p n c a b ha hb x l q is (Goes (weigh E (rests k t))) (v .messages a b four)
-  deliver-in (asking k) so v = out-in m p n c a b ha hb x l q is (Goes (weigh E (asking k))) k (v .messages a b four)
+  deliver-in idle so v = none-in m p n c a b ha hb x l q is (Goes 0) (v .messages a b (up-four s b hb))
+  deliver-in (rests k t) so v = none-in m p n c a b ha hb x l q is (Goes (weigh E (rests k t))) (v .messages a b (up-four s b hb))
+  deliver-in (asking k) so v = out-in m p n c a b ha hb x l q is (Goes (weigh E (asking k))) k (v .messages a b (up-four s b hb))
       (λ h hq r. out-moved k so h hq r v)
   deliver-in (told k t) so v =
-      home-in m p n c a b ha hb x l q is (Goes (weigh E (told k t))) k t (so .2) (v .messages a b four)
+      home-in m p n c a b ha hb x l q is (Goes (weigh E (told k t))) k t (so .2) (v .messages a b (up-four s b hb))
       (λ h hq r. home-moved k t (so .0) (so .1) (so .2) h hq r v)
 
 pub deliver-moved : (m : Model) (a b : ℕ) (i : Whole m) → accepted (deliver m a b) ≡ true → Moves m (deliver m a b .model) i

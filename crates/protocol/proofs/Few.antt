@@ -8,6 +8,7 @@ use lib.Dec.{eqb, ltb}
 use lib.ListN.{length}
 use borrow.Author.Tests.{eq-eqb, ltb-false, ltb-true}
 use Rattle.lists.specs.Lists.{keep}
+use Rattle.protocol.specs.Bounds.{maxMessages, maxPartitions, maxRecords}
 use Rattle.protocol.specs.Elements.{Body, Message, No, NoBecause, Record, Request, Yes, isRequest}
 use Rattle.protocol.specs.Order.{giver}
 use Rattle.protocol.specs.Tables.{Model, partition, queue, recordBears}
@@ -31,11 +32,11 @@ answer-giver a b (NoBecause k) e = refl
 
 -- in each queue, of each number no more messages than records; and no records above the last
 pub record Few (m : Model) : Type 0 where
-  pub each : (p n a b : ℕ) → b < 4 → length (keep (about a b p n) (queue m a b)) ≤ length (keep (recordBears n) (partition m p .records))
+  pub each : (p n a b : ℕ) → b < maxPartitions → length (keep (about a b p n) (queue m a b)) ≤ length (keep (recordBears n) (partition m p .records))
   pub small : (p n : ℕ) → partition m p .last < n → keep (recordBears n) (partition m p .records) ≡ []
-  pub sixteen : (p : ℕ) → length (partition m p .records) ≤ 16
+  pub sixteen : (p : ℕ) → length (partition m p .records) ≤ maxRecords
 
-module _ (m : Model) (f : Few m) (a b : ℕ) (hb : b < 4) where
+module _ (m : Model) (f : Few m) (a b : ℕ) (hb : b < maxPartitions) where
   -- the messages of p, whose test is g, are no more than p's records; fewer, if a record has none
   module _ (p : ℕ) (g : Message → Bool) (own : (x : Message) → g x ≡ true → giver (x .body) a b ≡ p) where
     abbrev N : ℕ
@@ -95,19 +96,19 @@ module _ (m : Model) (f : Few m) (a b : ℕ) (hb : b < 4) where
   replies : length (keep ans (queue m a b)) ≤ length (partition m b .records)
   replies = half b ans (λ x e. answer-giver a b (x .body) e)
 
-  pub queue-short : length (queue m a b) ≤ 32
+  pub queue-short : length (queue m a b) ≤ maxMessages
   queue-short = let h₁ = requests in let h₂ = replies in let h₃ = length-halves req (queue m a b) in let h₄ = f .sixteen a in let h₅ =
       f .sixteen b in omega arith
 
   -- room for one more, where a record of the sender, or of the receiver, has no message there
   pub room-out : (n : ℕ) → keep (about a b a n) (queue m a b) ≡ [] → 1 ≤ length (keep (recordBears n) (partition m a .records))
-      → length (queue m a b) < 32
+      → length (queue m a b) < maxMessages
   room-out n e h =
       let h₁ = half-less a req (λ x e. request-giver a b (x .body) e) n e h in
       let h₂ = replies in let h₃ = length-halves req (queue m a b) in let h₄ = f .sixteen a in let h₅ = f .sixteen b in omega arith
 
   pub room-home : (n : ℕ) → keep (about a b b n) (queue m a b) ≡ [] → 1 ≤ length (keep (recordBears n) (partition m b .records))
-      → length (queue m a b) < 32
+      → length (queue m a b) < maxMessages
   room-home n e h =
       let h₁ = half-less b ans (λ x e. answer-giver a b (x .body) e) n e h in
       let h₂ = requests in let h₃ = length-halves req (queue m a b) in let h₄ = f .sixteen a in let h₅ = f .sixteen b in omega arith

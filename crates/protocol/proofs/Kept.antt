@@ -12,6 +12,7 @@ use borrow.Author.Tests.{eqb-true, leb-true, ltb-true}
 use Rattle.lists.specs.Lists.{keep, mapIf}
 use Rattle.protocol.specs.Answers.{Outcome, accepted}
 use Rattle.protocol.specs.Ask.{ask, unlink, unlinkOf}
+use Rattle.protocol.specs.Bounds.{maxPartitions}
 use Rattle.protocol.specs.Demands.{isStep}
 use Rattle.protocol.specs.Elements.{Create, Kind, Link, Name, Ready, Record, Unlink, adds}
 use Rattle.protocol.specs.Events.{Advancing, Crashing, Creating, Cutting, Delivering, Event, Linking, Opening, Recovering, Unlinking, bare}
@@ -185,7 +186,7 @@ recover-whole m p i = check-keeps Whole _ _ m _ i λ e₁. check-keeps Whole _ _
 abbrev none-such : Content
 none-such = record { directory = 0; name = record { len = 0; bytes = [] }; partition = 0; object = 0 }
 
-pub fresh-whole : (k : ℕ) → 1 ≤ k → k ≤ 4 → Whole (fresh k)
+pub fresh-whole : (k : ℕ) → 1 ≤ k → k ≤ maxPartitions → Whole (fresh k)
 unfolding freshPartition noPartition keep
 fresh-whole k h₀ h =
     record {
@@ -231,7 +232,7 @@ step-whole e m w t =
 
 open-whole : (m : Model) (k : ℕ) → Whole m → Whole (openTables m k .model)
 unfolding openTables
-open-whole m k w = check-keeps Whole _ _ m _ w λ e. fresh-whole k (leb-true 1 k (and-left _ _ e)) (leb-true k 4 (and-right (leb 1 k) _ e))
+open-whole m k w = check-keeps Whole _ _ m _ w λ e. fresh-whole k (leb-true 1 k (and-left _ _ e)) (leb-true k maxPartitions (and-right (leb 1 k) _ e))
 
 pub event-whole : (e : Event) (m : Model) → Whole m → Whole (bare e m .model)
 unfolding bare

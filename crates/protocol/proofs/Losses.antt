@@ -10,6 +10,7 @@ use lib.Dec.{eqb, lit≤}
 use lib.ListN.{getD, length, length-replicate, replicate}
 use borrow.Author.Tests.{eqb-true}
 use Rattle.lists.specs.Lists.{keep, mapIf, one, pick}
+use Rattle.protocol.specs.Bounds.{maxPartitions, queueCount}
 use Rattle.protocol.specs.Demands.{backpointerBears}
 use Rattle.protocol.specs.Elements.{Backpointer, Entry, Message, Ready, Record, Request}
 use Rattle.protocol.specs.Faults.{between, drained, fallsWith, lose, relapsed, touches}
@@ -32,11 +33,11 @@ module _ (f : ℕ → Record → Bool) (g : ℕ → ℕ → Bool) (m : Model) wh
   part-lose q = getD-mapFrom (relapsed f) noPartition (λ j. refl) (m .partitions) 0 q ∙ ap
       (λ (j : ℕ). relapsed f j (getD (m .partitions) q noPartition)) (zero-add q)
 
-  pub queue-lose : (a b : ℕ) → b < 4 → queue (lose f g m) a b ≡ pick (g a b) [] (queue m a b)
+  pub queue-lose : (a b : ℕ) → b < maxPartitions → queue (lose f g m) a b ≡ pick (g a b) [] (queue m a b)
   unfolding queue lose
   queue-lose a b h =
-      getD-mapFrom (drained g) [] (λ j. nil (g (j / 4) (j % 4))) (m .queues) 0 (a * 4 + b)
-      ∙ ap₂ (λ (x y : ℕ). pick (g x y) [] (getD (m .queues) (a * 4 + b) [])) (omega arith) (omega arith)
+      getD-mapFrom (drained g) [] (λ j. nil (g (j / maxPartitions) (j % maxPartitions))) (m .queues) 0 (a * maxPartitions + b)
+      ∙ ap₂ (λ (x y : ℕ). pick (g x y) [] (getD (m .queues) (a * maxPartitions + b) [])) (omega arith) (omega arith)
 
   pub lose-shape : Shape m → Shape (lose f g m)
   unfolding lose
@@ -118,7 +119,7 @@ fresh-part zero p = inr refl
 fresh-part (suc k) zero = inl refl
 fresh-part (suc k) (suc p) = fresh-part k p
 
-pub fresh-shape : (k : ℕ) → k ≤ 4 → Shape (fresh k)
+pub fresh-shape : (k : ℕ) → k ≤ maxPartitions → Shape (fresh k)
 unfolding fresh
 fresh-shape k h = record { partitions = simp length-replicate h; queues = refl }
 
@@ -129,7 +130,7 @@ no-queue (suc j) (suc i) = no-queue j i
 
 pub fresh-queue : (k a b : ℕ) → queue (fresh k) a b ≡ []
 unfolding queue fresh
-fresh-queue k a b = no-queue 16 (a * 4 + b)
+fresh-queue k a b = no-queue queueCount (a * maxPartitions + b)
 
 pub fresh-none : {B : Type 0} (k : ℕ) (f : Partition → B) (v : B) → f freshPartition ≡ v → f noPartition ≡ v → (p : ℕ) → f (partition (fresh k) p) ≡ v
 fresh-none k f v a b p = elim (fresh-part k p) [ inl e ↦ rw e a | inr e ↦ rw e b ]

@@ -9,6 +9,7 @@ use lib.Dec.{eqb}
 use lib.ListN.{length}
 use borrow.Author.Tests.{eqb-false, eqb-true, ne-eqb}
 use Rattle.lists.specs.Lists.{isNone, keep, mapIf, without}
+use Rattle.protocol.specs.Bounds.{maxBackpointers, maxEntries, maxRecords}
 use Rattle.protocol.specs.Elements.{Backpointer, Entry, Name, Record, Stage, Unlink, adds}
 use Rattle.protocol.specs.Tables.{Model, Partition, claimed, entryBears, inPlace, inStage, partition, recordBears, setPartition, standsUnder, turned, unentered, withBackpointers, withEntries, withRecords}
 use Rattle.lists.proofs.Keep.{keep-cong, keep-snoc, keep-snoc-other, keep-without-other, length-keep-mapIf, length-keep-without, length-mapIf, length-split, length-without, single, snoc-length, tally-snoc}
@@ -18,9 +19,9 @@ use Rattle.protocol.proofs.Look.{part-other, part-same, place-true, sta
 pub record Neat (x : Partition) : Type 0 where
   pub names : (d : ℕ) (s : Name) → length (keep (standsUnder d s) (x .entries)) ≤ 1
   pub keys : (o a d : ℕ) (s : Name) → length (keep (inPlace o a d s) (x .backpointers)) ≤ 1
-  pub records : length (x .records) ≤ 16
-  pub backpointers : length (x .backpointers) ≤ 64
-  pub claimed : claimed x ≤ 64
+  pub records : length (x .records) ≤ maxRecords
+  pub backpointers : length (x .backpointers) ≤ maxBackpointers
+  pub claimed : claimed x ≤ maxEntries
   pub last : x .last ≤ 4294967295
 
 abbrev pub Neats : Model → Type 0
@@ -34,7 +35,7 @@ neat-set m p x h f n q =
     (λ t. rw (part-other m p x h q t) (n q))
 
 -- records change
-pub neat-records : (x : Partition) (l : List Record) → length l ≤ 16
+pub neat-records : (x : Partition) (l : List Record) → length l ≤ maxRecords
     → length (keep (unentered (x .entries)) l) ≤ length (keep (unentered (x .entries)) (x .records)) → Neat x → Neat (withRecords x l)
 unfolding claimed
 neat-records x l a b n =
@@ -65,12 +66,12 @@ neat-close x f n = neat-records x (without f (x .records)) (le-trans (length-wit
     (length-keep-without (unentered (x .entries)) f (x .records)) n
 
 -- an unlink opens
-pub neat-unlink : (x : Partition) (r : Record) → r .kind ≡ Unlink → length (x .records) < 16 → Neat x → Neat (withRecords x (x .records ++ r ∷ []))
+pub neat-unlink : (x : Partition) (r : Record) → r .kind ≡ Unlink → length (x .records) < maxRecords → Neat x → Neat (withRecords x (x .records ++ r ∷ []))
 neat-unlink x r k h n = neat-records x (x .records ++ r ∷ []) (rw (snoc-length (x .records) r) h)
     (let a = tally-snoc (unentered (x .entries)) (x .records) r in let b : hit (unentered (x .entries) r) ≡ 0 = rw k refl in omega arith) n
 
 -- a link or create opens
-pub neat-more : (x : Partition) (r : Record) → length (x .records) < 16 → claimed x < 64 → Neat x → Neat (withRecords x (x .records ++ r ∷ []))
+pub neat-more : (x : Partition) (r : Record) → length (x .records) < maxRecords → claimed x < maxEntries → Neat x → Neat (withRecords x (x .records ++ r ∷ []))
 unfolding claimed
 neat-more x r a b n =
     record {
@@ -88,7 +89,7 @@ neat-more x r a b n =
 
 -- back-pointers come and go
 pub neat-grow : (x : Partition) (b : Backpointer) → length (keep (inPlace (b .object) (b .parent) (b .directory) (b .name)) (x .backpointers)) ≡ 0
-    → length (x .backpointers) < 64 → Neat x → Neat (withBackpointers x (x .backpointers ++ b ∷ []))
+    → length (x .backpointers) < maxBackpointers → Neat x → Neat (withBackpointers x (x .backpointers ++ b ∷ []))
 unfolding claimed
 neat-grow x b e h n =
     record {

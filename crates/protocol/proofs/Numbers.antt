@@ -3,16 +3,16 @@ use mathlib.Core.Bool.{Bool, _&&_, false, true}
 use mathlib.Core.List.{List}
 use mathlib.Core.Path.{_∙_, _≡_, ap, ap₂, refl, sym}
 use Prim.Native.Nat.{_<_, ℕ}
-use native.Mathlib.Omega.{arith}
 use lib.Dec.{eqb}
 use lib.ListN.{length, length-set}
 use Rattle.lists.specs.Lists.{keep}
+use Rattle.protocol.specs.Bounds.{maxPartitions}
 use Rattle.protocol.specs.Demands.{backpointerBears}
 use Rattle.protocol.specs.Elements.{Backpointer, Entry, Message, Record}
 use Rattle.protocol.specs.Order.{giver}
 use Rattle.protocol.specs.Tables.{Model, Partition, changeBackpointers, changeEntries, changeRecords, entryBears, partition, queue, recordBears, setPartition, setQueue, withBackpointers, withEntries, withRecords}
 use Rattle.lists.proofs.Tests.{eqb-same, no-true}
-use Rattle.protocol.proofs.Look.{Shape, isQueue, part-cases, part-field, part-same, queue-cases, up-in}
+use Rattle.protocol.proofs.Look.{Shape, isQueue, part-cases, part-field, part-same, queue-cases, up-four, up-in}
 use Rattle.protocol.proofs.Neat.{Neat, Neats, neat-set}
 
 abbrev pub here : ℕ → ℕ → ℕ → ℕ → Bool
@@ -27,7 +27,7 @@ pub record View (m : Model) (p n : ℕ) (E : List Entry) (R : List Record) (B : 
   pub entries : keep (entryBears n) (partition m p .entries) ≡ E
   pub records : keep (recordBears n) (partition m p .records) ≡ R
   pub backpointers : (q : ℕ) → keep (backpointerBears p n) (partition m q .backpointers) ≡ B q
-  pub messages : (a b : ℕ) → b < 4 → keep (about a b p n) (queue m a b) ≡ M a b
+  pub messages : (a b : ℕ) → b < maxPartitions → keep (about a b p n) (queue m a b) ≡ M a b
 
 -- nothing else changed
 pub record Else (m m′ : Model) (p n : ℕ) : Type 0 where
@@ -37,14 +37,14 @@ pub record Else (m m′ : Model) (p n : ℕ) : Type 0 where
   pub lasts : (q : ℕ) → partition m′ q .last ≡ partition m q .last
   pub neat : Neats m → Neats m′
   pub still : (q : ℕ) → partition m q .up ≡ false → partition m′ q .records ≡ partition m q .records
-  pub quiet : (a b : ℕ) → b < 4 → partition m a .up && partition m b .up ≡ false → queue m′ a b ≡ queue m a b
+  pub quiet : (a b : ℕ) → b < maxPartitions → partition m a .up && partition m b .up ≡ false → queue m′ a b ≡ queue m a b
   pub entries : (p′ n′ : ℕ) → here p n p′ n′ ≡ false
       → keep (entryBears n′) (partition m′ p′ .entries) ≡ keep (entryBears n′) (partition m p′ .entries)
   pub records : (p′ n′ : ℕ) → here p n p′ n′ ≡ false
       → keep (recordBears n′) (partition m′ p′ .records) ≡ keep (recordBears n′) (partition m p′ .records)
   pub backpointers : (p′ n′ : ℕ) → here p n p′ n′ ≡ false → (q : ℕ)
       → keep (backpointerBears p′ n′) (partition m′ q .backpointers) ≡ keep (backpointerBears p′ n′) (partition m q .backpointers)
-  pub messages : (p′ n′ : ℕ) → here p n p′ n′ ≡ false → (a b : ℕ) → b < 4
+  pub messages : (p′ n′ : ℕ) → here p n p′ n′ ≡ false → (a b : ℕ) → b < maxPartitions
       → keep (about a b p′ n′) (queue m′ a b) ≡ keep (about a b p′ n′) (queue m a b)
 
 pub else-trans : {m m′ m″ : Model} {p n : ℕ} → Else m m′ p n → Else m′ m″ p n → Else m m″ p n
@@ -223,17 +223,14 @@ module _ (m : Model) (p n a b : ℕ) (s : Shape m) (ua : partition m a .up ≡ t
         lasts = λ q. rw (part-queue m a b l q) refl;
         neat = λ n q. rw (part-queue m a b l q) (n q);
         still = λ q e. rw (part-queue m a b l q) refl;
-        quiet = λ a′ b′ h e. queue-cases m a b l (la a ua) (la b ub) (s .queues) (λ z. z) _ a′ b′ h
+        quiet = λ a′ b′ h e. queue-cases m a b l (up-four s a ua) (up-four s b ub) (s .queues) (λ z. z) _ a′ b′ h
             (λ ea eb. no-true (ap₂ _&&_ ua ub) (rw (ea, eb) at e)) (λ t. refl);
         entries = λ p′ n′ e. rw (part-queue m a b l p′) refl;
         records = λ p′ n′ e. rw (part-queue m a b l p′) refl;
         backpointers = λ p′ n′ e q. rw (part-queue m a b l q) refl;
-        messages = λ p′ n′ e a′ b′ h. queue-cases m a b l (la a ua) (la b ub) (s .queues) (keep (about a′ b′ p′ n′)) _ a′ b′ h
+        messages = λ p′ n′ e a′ b′ h. queue-cases m a b l (up-four s a ua) (up-four s b ub) (s .queues) (keep (about a′ b′ p′ n′)) _ a′ b′ h
             (λ ea eb. rw (ea, eb) (o p′ n′ e)) (λ t. refl);
       }
-    where
-      la : (i : ℕ) → partition m i .up ≡ true → i < 4
-      la i e = let k = s .partitions in let j = up-in m i e in omega arith
 
   pub queue-view : {E : List Entry} {R : List Record} {B : ℕ → List Backpointer} {M : ℕ → ℕ → List Message}
       → View m p n E R B M → (M′ : ℕ → ℕ → List Message) → (keep (about a b p n) l ≡ M′ a b)
@@ -244,9 +241,6 @@ module _ (m : Model) (p n a b : ℕ) (s : Shape m) (ua : partition m a .up ≡ t
         entries = rw (part-queue m a b l p) (v .entries);
         records = rw (part-queue m a b l p) (v .records);
         backpointers = λ q. rw (part-queue m a b l q) (v .backpointers q);
-        messages = λ a′ b′ h. queue-cases m a b l (la a ua) (la b ub) (s .queues) (keep (about a′ b′ p n)) (M′ a′ b′) a′ b′ h
+        messages = λ a′ b′ h. queue-cases m a b l (up-four s a ua) (up-four s b ub) (s .queues) (keep (about a′ b′ p n)) (M′ a′ b′) a′ b′ h
             (λ ea eb. rw (ea, eb) e) (λ t. v .messages a′ b′ h ∙ o a′ b′ t);
       }
-    where
-      la : (i : ℕ) → partition m i .up ≡ true → i < 4
-      la i e = let k = s .partitions in let j = up-in m i e in omega arith

@@ -3,7 +3,6 @@ use mathlib.Core.Bool.{Bool, false, not, true}
 use mathlib.Core.List.{List, [], _∷_, nil≢cons}
 use mathlib.Core.Path.{_∙_, _≡_, ap, refl, subst, sym}
 use Prim.Native.Nat.{_<_, ℕ}
-use native.Mathlib.Omega.{arith}
 use lib.Dec.{ltb}
 use lib.ListN.{length}
 use borrow.Author.Tests.{lt-ltb, ltb-false, ltb-true}
@@ -24,6 +23,7 @@ use Rattle.protocol.proofs.Bound.{no-records}
 use Rattle.protocol.proofs.Changes.{no-step}
 use Rattle.protocol.proofs.Content.{Content, Fine, letters, messageAt, recordAt}
 use Rattle.protocol.proofs.Kept.{step-moves}
+use Rattle.protocol.proofs.Look.{four}
 use Rattle.protocol.proofs.Numbers.{View, about}
 use Rattle.protocol.proofs.Tells.{order-whole}
 use Rattle.protocol.proofs.Whole.{Fit, Sound, Way, Whole, asking, idle, mailOf, recsOf, rests, told}
@@ -90,9 +90,6 @@ module _ (m : Model) (g : Whole m) (up : AllUp m) (p n : ℕ) (h : p < length (m
         (first-code a b (queue m a b) (λ q. nil≢cons (sym (ap (keep (about a b p n)) q) ∙ e))),
   )
 
-  four : (i : ℕ) → i < length (m .partitions) → i < 4
-  four i l = let k = g .shape .partitions in omega arith
-
   progress : (c : Content) (E : List Entry) {B : ℕ → List Backpointer} (w : Way) → Sound m c w
       → View m p n E (recsOf c n w) B (letters c n p (mailOf w)) → (recsOf c n w ≡ [] → ⊥) → Goes
   unfolding bare advance check next
@@ -105,10 +102,10 @@ module _ (m : Model) (g : Whole m) (up : AllUp m) (p n : ℕ) (h : p < length (m
   )
   progress c E (asking k) so v r =
       up-deliver p (c .partition) h (so .partition) (messageAt c n k Request)
-      (v .messages p (c .partition) (four _ (so .partition)) ∙ rw (eqb-same p, eqb-same (c .partition)) refl)
+      (v .messages p (c .partition) (four (g .shape) _ (so .partition)) ∙ rw (eqb-same p, eqb-same (c .partition)) refl)
   progress c E (told k t) so v r =
       up-deliver (c .partition) p (so .0 .partition) h (messageAt c n k t)
-      (v .messages (c .partition) p (four _ h) ∙ rw (eqb-same p, eqb-same (c .partition)) refl)
+      (v .messages (c .partition) p (four (g .shape) _ h) ∙ rw (eqb-same p, eqb-same (c .partition)) refl)
 
 move-on : (m : Model) (g : Whole m) → AllUp m → (p : ℕ) (r : Record) (l : List Record) → partition m p .records ≡ r ∷ l
     → (e : Event) × (isStep e ≡ true) × (accepted (bare e m) ≡ true)

@@ -10,6 +10,7 @@ use lib.Dec.{eqb}
 use lib.ListN.{length}
 use borrow.Author.Tests.{leb-true}
 use Rattle.protocol.specs.Answers.{Outcome, accepted}
+use Rattle.protocol.specs.Bounds.{maxPartitions}
 use Rattle.protocol.specs.Demands.{Matched, isStep, openRecords}
 use Rattle.protocol.specs.Elements.{Create, Link, Record}
 use Rattle.protocol.specs.Events.{Advancing, Crashing, Creating, Cutting, Delivering, Event, Linking, Opening, Recovering, Unlinking, apply, bare, run}
@@ -79,10 +80,10 @@ unfolding run
 run-reached [] m g = g
 run-reached (e ∷ es) m g = run-reached es (apply e m .model) (apply-reached e m g)
 
-pub fresh-order : (k : ℕ) → 1 ≤ k → k ≤ 4 → inOrder (fresh k) ≡ true
+pub fresh-order : (k : ℕ) → 1 ≤ k → k ≤ maxPartitions → inOrder (fresh k) ≡ true
 fresh-order k h₁ h₄ = whole-order (fresh k) (fresh-whole k h₁ h₄)
 
-pub fresh-reached : (k : ℕ) → 1 ≤ k → k ≤ 4 → Reached (fresh k)
+pub fresh-reached : (k : ℕ) → 1 ≤ k → k ≤ maxPartitions → Reached (fresh k)
 fresh-reached k h₁ h₄ = record { order = fresh-order k h₁ h₄; ties = fresh-ties k h₁ }
 
 closed-log : (m : Model) → openRecords m ≡ 0 → (p : ℕ) → length (partition m p .records) ≡ 0

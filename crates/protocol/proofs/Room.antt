@@ -11,6 +11,7 @@ use borrow.Author.Tests.{eq-eqb, eqb-true, ltb-true}
 use Rattle.lists.specs.Lists.{isNone, keep}
 use Rattle.protocol.specs.Answers.{Outcome, accepted, check}
 use Rattle.protocol.specs.Ask.{ask, askTables, unlink, unlinkFound}
+use Rattle.protocol.specs.Bounds.{maxEntries, maxMessages, maxPartitions, maxRecords}
 use Rattle.protocol.specs.Deliver.{isExactly}
 use Rattle.protocol.specs.Elements.{Backpointer, BadName, Down, Entry, Kind, LogFull, Message, Name, NameExists, NumbersSpent, OutOfRange, Record, RecordOpen, Refusal, Request, Sent, Stage, adds, isAccepted, isRequest, isSent}
 use Rattle.protocol.specs.Order.{inOrder}
@@ -21,7 +22,7 @@ use Rattle.lists.proofs.Tests.{and-left, and-right, both-true, byTest, eqb-same
 use Rattle.protocol.proofs.Changes.{no-step, out-view}
 use Rattle.protocol.proofs.Content.{Content, home, letters, messageAt, out, recordAt}
 use Rattle.protocol.proofs.Few.{Few, request-giver, room-home, room-out}
-use Rattle.protocol.proofs.Look.{isQueue, queue-cases}
+use Rattle.protocol.proofs.Look.{four, isQueue, queue-cases}
 use Rattle.protocol.proofs.Numbers.{View, about, part-queue}
 use Rattle.protocol.proofs.Shows.{records-one, whole-few}
 use Rattle.protocol.proofs.Tells.{order-whole}
@@ -48,22 +49,19 @@ module _ (m : Model) (o : inOrder m ≡ true) where
       le-trans (length-keep-sub (isExactly a x) (inPlace (x .object) a (x .directory) (x .name)) (λ b e. and-right (eqb (b .number) (x .number)) _ e)
       (partition m q .backpointers)) (one-key q (x .object) a (x .directory) (x .name))
 
-  four : (i : ℕ) → i < length (m .partitions) → i < 4
-  four i h = let k = w .shape .partitions in omega arith
-
   pub request-room : (p n : ℕ) (r : Record) (rs : List Record) → keep (recordBears n) (partition m p .records) ≡ r ∷ rs → isSent (r .stage) ≡ false
-      → length (queue m p (r .partition)) < 32
+      → length (queue m p (r .partition)) < maxMessages
   request-room p n r rs e t = let y : Fit m p n = w .local p n in go (y .what) (y .way) (y .sound) (y .has)
     where
       not-sent : (c : Content) (k : Kind) → keep (recordBears n) (partition m p .records) ≡ recordAt c n k Sent ∷ [] → isSent (r .stage) ≡ true
       not-sent c k f = ap (λ (z : Record). isSent (z .stage)) (head-eq-of-cons-eq (sym e ∙ f))
 
       go : (c : Content) (v : Way) → Sound m c v → {E : List Entry} {B : ℕ → List Backpointer}
-          → View m p n E (recsOf c n v) B (letters c n p (mailOf v)) → length (queue m p (r .partition)) < 32
+          → View m p n E (recsOf c n v) B (letters c n p (mailOf v)) → length (queue m p (r .partition)) < maxMessages
       go c idle so y = absurd (nil≢cons (sym (y .records) ∙ e))
       go c (rests k s) so y =
           let q : r .partition ≡ c .partition = ap (λ (z : Record). z .partition) (head-eq-of-cons-eq (sym e ∙ y .records)) in
-          let h : r .partition < 4 = rw q (four (c .partition) (so .0 .partition)) in
+          let h : r .partition < maxPartitions = rw q (four (w .shape) (c .partition) (so .0 .partition)) in
           room-out m (whole-few m w) p (r .partition) h n (y .messages p (r .partition) h) (rw e (omega arith))
       go c (asking k) so y = no-true (not-sent c k (y .records)) t
       go c (told k s) so y = no-true (not-sent c k (y .records)) t
@@ -81,7 +79,7 @@ module _ (m : Model) (o : inOrder m ≡ true) where
       go c (told k b) so f = rw (owner c k Sent f) (so .0 .partition)
 
   pub entry-room : (p n : ℕ) (r : Record) (rs : List Record) → keep (recordBears n) (partition m p .records) ≡ r ∷ rs → adds (r .kind) ≡ true
-      → keep (entryBears n) (partition m p .entries) ≡ [] → length (partition m p .entries) < 64
+      → keep (entryBears n) (partition m p .entries) ≡ [] → length (partition m p .entries) < maxEntries
   unfolding claimed
   entry-room p n r rs e a z =
       let i : List·Memᴰ r (partition m p .records) = seen-mem (recordBears n) (partition m p .records) rs r e in
@@ -89,10 +87,10 @@ module _ (m : Model) (o : inOrder m ≡ true) where
       let u : unentered (partition m p .entries) r ≡ true = both-true a (rw q (ap isNone z)) in
       let j : 1 ≤ length (keep (unentered (partition m p .entries)) (partition m p .records)) = some-mem _
       (mem-keep (unentered (partition m p .entries)) (partition m p .records) r i u) in
-      let k : claimed (partition m p) ≤ 64 = w .neat p .claimed in
+      let k : claimed (partition m p) ≤ maxEntries = w .neat p .claimed in
       omega arith
 
-  module _ (a b : ℕ) (x : Message) (l : List Message) (ha : a < 4) (hb : b < 4) (q : queue m a b ≡ x ∷ l) where
+  module _ (a b : ℕ) (x : Message) (l : List Message) (ha : a < maxPartitions) (hb : b < maxPartitions) (q : queue m a b ≡ x ∷ l) where
     abbrev popped : Model
     popped = setQueue m a b l
 
@@ -127,7 +125,7 @@ module _ (m : Model) (o : inOrder m ≡ true) where
     up-b : partition m b .up ≡ true
     up-b = byTest (partition m b .up) (λ u. u) (λ u. absurd (nil≢cons (sym (w .downs b u .to a hb) ∙ q)))
 
-    pub answer-room : isRequest (x .body) ≡ true → length (queue popped b a) < 32
+    pub answer-room : isRequest (x .body) ≡ true → length (queue popped b a) < maxMessages
     answer-room t = let y : Fit m a (x .number) = w .local a (x .number) in go (y .what) (y .way) (y .sound) (y .has)
       where
         n : ℕ
@@ -140,7 +138,7 @@ module _ (m : Model) (o : inOrder m ≡ true) where
         first M e = sym (keep-cons-same (about a b a n) l x is) ∙ ap (keep (about a b a n)) (sym q) ∙ e
 
         go : (c : Content) (v : Way) → Sound m c v → {E : List Entry} {B : ℕ → List Backpointer}
-            → View m a n E (recsOf c n v) B (letters c n a (mailOf v)) → length (queue popped b a) < 32
+            → View m a n E (recsOf c n v) B (letters c n a (mailOf v)) → length (queue popped b a) < maxMessages
         go c idle so y = absurd (nil≢cons (sym (first [] (y .messages a b hb))))
         go c (rests k s) so y = absurd (nil≢cons (sym (first [] (y .messages a b hb))))
         go c (asking k) so y =
@@ -165,7 +163,7 @@ unfolding check
 check-true true why m o n e = (refl, e)
 check-true false why m o n e = no-true e n
 
-pub asked-room : (k : Kind) (m : Model) (p d : ℕ) (s : Name) (q o : ℕ) → accepted (ask k m p d s q o) ≡ true → length (partition m p .records) < 16
+pub asked-room : (k : Kind) (m : Model) (p d : ℕ) (s : Name) (q o : ℕ) → accepted (ask k m p d s q o) ≡ true → length (partition m p .records) < maxRecords
 unfolding ask askTables
 asked-room k m p d s q o e =
     let a = check-true _ OutOfRange m _ refl e in
@@ -176,7 +174,7 @@ asked-room k m p d s q o e =
     let h = check-true _ LogFull m _ refl (g .1) in
     ltb-true _ _ (h .0)
 
-pub unlinked-room : (m : Model) (p d : ℕ) (s : Name) → accepted (unlink m p d s) ≡ true → length (partition m p .records) < 16
+pub unlinked-room : (m : Model) (p d : ℕ) (s : Name) → accepted (unlink m p d s) ≡ true → length (partition m p .records) < maxRecords
 unfolding unlink
 unlinked-room m p d s e =
     let a = check-true _ OutOfRange m _ refl e in
@@ -184,7 +182,7 @@ unlinked-room m p d s e =
     let c = check-true _ Down m _ refl (b .1) in
     go (keep (standsUnder d s) (partition m p .entries)) (c .1)
   where
-    go : (es : List Entry) → accepted (unlinkFound m p es) ≡ true → length (partition m p .records) < 16
+    go : (es : List Entry) → accepted (unlinkFound m p es) ≡ true → length (partition m p .records) < maxRecords
     go [] e = no-step e
     go (y ∷ es) e =
         let a = check-true _ RecordOpen m _ refl e in

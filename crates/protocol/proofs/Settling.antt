@@ -12,6 +12,7 @@ use borrow.Author.Tests.{eqb-false, eqb-true, ltb-true}
 use Rattle.lists.specs.Lists.{all, keep}
 use Rattle.protocol.specs.Advance.{advance, advanceFound}
 use Rattle.protocol.specs.Answers.{Outcome, accepted, check}
+use Rattle.protocol.specs.Bounds.{maxRecords}
 use Rattle.protocol.specs.Claims.{Takes}
 use Rattle.protocol.specs.Deliver.{deliver}
 use Rattle.protocol.specs.Demands.{AllUp, acceptedIn, isStep, openRecords}
@@ -92,11 +93,11 @@ bare-candidate (Opening k) m t a = no-step t
 -- ---- the first accepted one
 
 module _ (f : Event → Model → Outcome) (m : Model) where
-  first-hit : (e : Event) (es : List Event) → accepted (f e m) ≡ true → firstAccepted f m (e ∷ es) ≡ found e
+  pub first-hit : (e : Event) (es : List Event) → accepted (f e m) ≡ true → firstAccepted f m (e ∷ es) ≡ found e
   unfolding firstAccepted
   first-hit e es t = rw (t, firstAccepted) refl
 
-  first-miss : (e : Event) (es : List Event) → accepted (f e m) ≡ false → firstAccepted f m (e ∷ es) ≡ firstAccepted f m es
+  pub first-miss : (e : Event) (es : List Event) → accepted (f e m) ≡ false → firstAccepted f m (e ∷ es) ≡ firstAccepted f m es
   unfolding firstAccepted
   first-miss e es t = rw (t, firstAccepted) refl
 
@@ -123,11 +124,11 @@ module _ (f : Event → Model → Outcome) (m : Model) where
 
 -- the two ways that a settling run goes on
 module _ (f : Event → Model → Outcome) (n : ℕ) (t : Tally) (m : Model) where
-  settle-nothing : firstAccepted f m (candidates m) ≡ nothing → settleBy f (suc n) t m ≡ rested t m
+  pub settle-nothing : firstAccepted f m (candidates m) ≡ nothing → settleBy f (suc n) t m ≡ rested t m
   unfolding settleBy
   settle-nothing h = rw (h, settleBy) refl
 
-  settle-found : (e : Event) → firstAccepted f m (candidates m) ≡ found e
+  pub settle-found : (e : Event) → firstAccepted f m (candidates m) ≡ found e
       → settleBy f (suc n) t m ≡ settleBy f n (tallied (f e m .answer .reply) t) (f e m .model)
   unfolding settleBy
   settle-found e h = rw (h, settleBy) refl
@@ -319,7 +320,7 @@ pub settle-small : (n : ℕ) (t : Tally) (m : Model) → inOrder m ≡ true → 
 unfolding openRecords partition noPartition
 settle-small n t m o =
     let w : Whole m = order-whole m o in
-    let a = total-most (λ (x : Partition). length (x .records)) noPartition refl 16 (m .partitions) (λ p. w .neat p .records) in
+    let a = total-most (λ (x : Partition). length (x .records)) noPartition refl maxRecords (m .partitions) (λ p. w .neat p .records) in
     let b = w .shape .partitions in
     let c = settle-takes n t m o in
     let d = c .counts in

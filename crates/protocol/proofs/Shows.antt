@@ -8,6 +8,7 @@ use lib.Dec.{eqb, leb, lit≤}
 use lib.ListN.{List·getD-eq-default, length}
 use borrow.Author.Tests.{eq-eqb, eqb-true, le-leb, leb-false, leb-true, lt-ltb, ltb-false}
 use Rattle.lists.specs.Lists.{all, any, isNone, keep, one}
+use Rattle.protocol.specs.Bounds.{maxEntries, maxPartitions}
 use Rattle.protocol.specs.Demands.{backpointerBears}
 use Rattle.protocol.specs.Elements.{Backpointer, Body, Create, Entry, Kind, Link, Message, No, NoBecause, Record, Request, Sent, Stage, Unlink, Yes, isReady, isRequest, sameKind, stageFits}
 use Rattle.protocol.specs.Order.{O1, O2, O3, O4, O5, O6, O7, backpointerInRange, backpointersApart, backpointersClash, eachPair, entriesApart, entryInRange, givenBy, giver, hasOneMessage, hasRecord, holder, inOrder, inRange, isAnswerTo, isRequestOf, matches, numbersGiven, partitionInRange, recordInRange, recordsApart, recordsClash, sentAs}
@@ -19,7 +20,7 @@ use Rattle.lists.proofs.Tests.{_also_, and-left, and-right, below-true, both-tr
 use Rattle.names.proofs.Laws.{name-same}
 use Rattle.protocol.proofs.Content.{Blank, Content, Fine, Mail, home, letters, messageAt, out, recordAt, unready}
 use Rattle.protocol.proofs.Few.{Few, answer-giver, queue-short, request-giver}
-use Rattle.protocol.proofs.Look.{Shape}
+use Rattle.protocol.proofs.Look.{Shape, four}
 use Rattle.protocol.proofs.Numbers.{View, about}
 use Rattle.protocol.proofs.Whole.{Fit, Sound, Way, Whole, asking, idle, mailOf, ofBackpointer, ofEntry, ofRecord, recsOf, rests, told}
 
@@ -64,9 +65,6 @@ count-none g true x e = rw e refl
 count-none g false x e = refl
 
 module _ (m : Model) (p n : ℕ) (c : Content) (s : Shape m) (h : p < length (m .partitions)) (f : Fine m c) where
-  four : (i : ℕ) → i < length (m .partitions) → i < 4
-  four i l = let k = s .partitions in omega arith
-
   two : (k : Kind) (l : Mail) → keep (about p (c .partition) p n) (queue m p (c .partition)) ≡ letters c n p l p (c .partition)
       → keep (about (c .partition) p p n) (queue m (c .partition) p) ≡ letters c n p l (c .partition) p
       → length (keep (isRequestOf (recordAt c n k Sent)) (letters c n p l p (c .partition))) + length
@@ -87,7 +85,7 @@ module _ (m : Model) (p n : ℕ) (c : Content) (s : Shape m) (h : p < length (m 
       (count-one (isRequestOf (recordAt c n k Sent)) (messageAt c n k Request) (of-same c n k Sent Request)) in
       let w : length (keep (isAnswerTo (recordAt c n k Sent)) (letters c n p (out k) (c .partition) p)) ≡ 0 =
       count-none (isAnswerTo (recordAt c n k Sent)) (eqb (c .partition) p && eqb p (c .partition)) (messageAt c n k Request) refl in
-      two k (out k) (v .messages p (c .partition) (four (c .partition) (f .partition))) (v .messages (c .partition) p (four p h)) (omega arith)
+      two k (out k) (v .messages p (c .partition) (four s (c .partition) (f .partition))) (v .messages (c .partition) p (four s p h)) (omega arith)
 
   sent-home : (k : Kind) (t : Body) → isRequest t ≡ false → {E : List Entry} {B : ℕ → List Backpointer}
       → View m p n E (recordAt c n k Sent ∷ []) B (letters c n p (home k t)) → hasOneMessage m p (recordAt c n k Sent) ≡ true
@@ -96,7 +94,7 @@ module _ (m : Model) (p n : ℕ) (c : Content) (s : Shape m) (h : p < length (m 
       count-none (isRequestOf (recordAt c n k Sent)) (eqb p (c .partition) && eqb (c .partition) p) (messageAt c n k t) (rw nr refl) in
       let w : length (keep (isAnswerTo (recordAt c n k Sent)) (letters c n p (home k t) (c .partition) p)) ≡ 1 =
       rw (eqb-same p, eqb-same (c .partition)) (count-one (isAnswerTo (recordAt c n k Sent)) (messageAt c n k t) (rw nr (of-same c n k Sent t))) in
-      two k (home k t) (v .messages p (c .partition) (four (c .partition) (f .partition))) (v .messages (c .partition) p (four p h)) (omega arith)
+      two k (home k t) (v .messages p (c .partition) (four s (c .partition) (f .partition))) (v .messages (c .partition) p (four s p h)) (omega arith)
 
 -- each record, by its number's way
 module _ (m : Model) (p n : ℕ) (c : Content) (s : Shape m) (h : p < length (m .partitions)) where
@@ -181,7 +179,7 @@ ready-all (r ∷ l) e =
     (λ t. both-true t (ready-all l (sym (keep-cons-other unready l r (rw t refl)) ∙ e)))
     (λ t. absurd (nil≢cons (sym e ∙ keep-cons-same unready l r (rw t refl))))
 
-claimed-entries : (x : Partition) → claimed x ≤ 64 → length (x .entries) ≤ 64
+claimed-entries : (x : Partition) → claimed x ≤ maxEntries → length (x .entries) ≤ maxEntries
 unfolding claimed
 claimed-entries x h = omega arith
 
@@ -299,20 +297,20 @@ module _ (m : Model) (w : Whole m) where
         let y : Fit m p (r .number) = w .local p (r .number) in
         record-once m p (r .number) (y .what) (w .shape) h (y .way) (y .sound) (y .has) r (rw (y .has .records) at (record-here r i))
 
-  letter-ok : (a b : ℕ) → b < 4 → (y : Message) → List·Memᴰ y (queue m a b) → hasRecord m a b y ≡ true
+  letter-ok : (a b : ℕ) → b < maxPartitions → (y : Message) → List·Memᴰ y (queue m a b) → hasRecord m a b y ≡ true
   letter-ok a b hb y i =
       let p : ℕ = giver (y .body) a b in
       let x : Fit m p (y .number) = w .local p (y .number) in
       letter-in m p (y .number) (x .what) a b (x .way) (x .sound) (x .has .records) y
       (rw (x .has .messages a b hb) at (mem-keep (about a b p (y .number)) (queue m a b) y i (both-true (eqb-same p) (eqb-same (y .number)))))
 
-  quiet-ok : (a b : ℕ) → b < 4 → (partition m a .up && partition m b .up || isNone (queue m a b)) ≡ true
+  quiet-ok : (a b : ℕ) → b < maxPartitions → (partition m a .up && partition m b .up || isNone (queue m a b)) ≡ true
   quiet-ok a b hb =
       or-else (partition m a .up && partition m b .up)
       (λ t. ap isNone (byTest (partition m a .up) (λ u. w .downs b (rw u at t) .to a hb) (λ u. w .downs a u .from b hb)))
 
-  pairs : (f : ℕ → ℕ → Bool) → ((a b : ℕ) → b < 4 → f a b ≡ true) → eachPair f ≡ true
-  pairs f h = below-true 4 _ (λ a ha. below-true 4 (f a) (λ b hb. h a b hb))
+  pairs : (f : ℕ → ℕ → Bool) → ((a b : ℕ) → b < maxPartitions → f a b ≡ true) → eachPair f ≡ true
+  pairs f h = below-true maxPartitions _ (λ a ha. below-true maxPartitions (f a) (λ b hb. h a b hb))
 
   o1 : O1 m ≡ true
   unfolding O1

@@ -10,6 +10,7 @@ use lib.ListN.{List·getD-eq-default, length}
 use borrow.Author.Tests.{eq-eqb, eqb-true, leb-true, ltb-false, ltb-true}
 use Rattle.lists.specs.Lists.{all, isNone, keep, one}
 use Rattle.names.specs.Names.{goodName}
+use Rattle.protocol.specs.Bounds.{maxBackpointers, maxEntries, maxPartitions, maxRecords}
 use Rattle.protocol.specs.Demands.{backpointerBears}
 use Rattle.protocol.specs.Elements.{Backpointer, Body, Cleared, Create, Entry, Held, Kind, Link, Message, Name, No, NoBecause, Ready, Record, Refused, Request, Sent, Stage, Unlink, Yes, bodyFits, isReady, isRequest, isSent, sameKind, stageFits}
 use Rattle.protocol.specs.Order.{O1, O2, O3, O4, O5, O6, O7, allReady, backpointerInRange, backpointersApart, backpointersClash, eachPair, entriesApart, entriesClash, entryInRange, givenBy, giver, hasOneMessage, hasRecord, holder, inOrder, inRange, isAnswerTo, isRequestOf, matches, numbersGiven, partitionInRange, recordInRange, recordsApart, recordsClash, roomKept, sentAs}
@@ -21,7 +22,7 @@ use Rattle.lists.proofs.Tests.{and-left, and-right, below-at, bool-same, both-t
 use Rattle.names.proofs.Laws.{name-true}
 use Rattle.protocol.proofs.Changes.{sent}
 use Rattle.protocol.proofs.Content.{AtRest, Blank, Content, Fine, letters, messageAt, recordAt, unready}
-use Rattle.protocol.proofs.Look.{Shape, place-true, stands-true}
+use Rattle.protocol.proofs.Look.{Shape, four, place-true, stands-true}
 use Rattle.protocol.proofs.Neat.{Neat}
 use Rattle.protocol.proofs.Numbers.{about}
 use Rattle.protocol.proofs.Shows.{answers-about, asks-about}
@@ -104,18 +105,18 @@ module _ (m : Model) (o : inOrder m ≡ true) where
   some = leb-true _ _ (every-at _ o1 0)
 
   -- a queue from no partition is empty
-  far : (a b : ℕ) → 4 ≤ a → queue m a b ≡ []
+  far : (a b : ℕ) → maxPartitions ≤ a → queue m a b ≡ []
   unfolding queue
-  far a b h = List·getD-eq-default (m .queues) [] {n = a * 4 + b} (let e = shape .queues in omega arith)
+  far a b h = List·getD-eq-default (m .queues) [] {n = a * maxPartitions + b} (let e = shape .queues in omega arith)
 
-  pair-at : (f : ℕ → ℕ → Bool) → eachPair f ≡ true → (a b : ℕ) → a < 4 → b < 4 → f a b ≡ true
-  pair-at f h a b ha hb = below-at 4 (f a) (below-at 4 _ h a ha) b hb
+  pair-at : (f : ℕ → ℕ → Bool) → eachPair f ≡ true → (a b : ℕ) → a < maxPartitions → b < maxPartitions → f a b ≡ true
+  pair-at f h a b ha hb = below-at maxPartitions (f a) (below-at maxPartitions _ h a ha) b hb
 
-  letter : (a b : ℕ) → a < 4 → b < 4 → (x : Message) → List·Memᴰ x (queue m a b) → hasRecord m a b x ≡ true
+  letter : (a b : ℕ) → a < maxPartitions → b < maxPartitions → (x : Message) → List·Memᴰ x (queue m a b) → hasRecord m a b x ≡ true
   unfolding inOrder O6
   letter a b ha hb x i = all-get (hasRecord m a b) (queue m a b) (pair-at _ (and-left _ _ (every-at _ o 5)) a b ha hb) x i
 
-  quiet : (a b : ℕ) → a < 4 → b < 4 → partition m a .up && partition m b .up ≡ false → queue m a b ≡ []
+  quiet : (a b : ℕ) → a < maxPartitions → b < maxPartitions → partition m a .up && partition m b .up ≡ false → queue m a b ≡ []
   unfolding inOrder O7
   quiet a b ha hb t = isNone-true _ (or-right (partition m a .up && partition m b .up) (pair-at _ (and-left _ _ (every-at _ o 6)) a b ha hb) t)
 
@@ -257,9 +258,9 @@ module _ (m : Model) (o : inOrder m ≡ true) where
         record {
           names = few-names;
           keys = few-keys;
-          records = counts (λ (x : Partition). length (x .records) ≤ 16) (λ h. leb-true _ _ (every-at _ (in-range p h) 3)) (lit≤ tt);
-          backpointers = counts (λ (x : Partition). length (x .backpointers) ≤ 64) (λ h. leb-true _ _ (every-at _ (in-range p h) 2)) (lit≤ tt);
-          claimed = counts (λ (x : Partition). claimed x ≤ 64) (λ h. leb-true _ _ (room-kept p h)) (lit≤ tt);
+          records = counts (λ (x : Partition). length (x .records) ≤ maxRecords) (λ h. leb-true _ _ (every-at _ (in-range p h) 3)) (lit≤ tt);
+          backpointers = counts (λ (x : Partition). length (x .backpointers) ≤ maxBackpointers) (λ h. leb-true _ _ (every-at _ (in-range p h) 2)) (lit≤ tt);
+          claimed = counts (λ (x : Partition). claimed x ≤ maxEntries) (λ h. leb-true _ _ (room-kept p h)) (lit≤ tt);
           last = counts (λ (x : Partition). x .last ≤ 4294967295) (λ h. leb-true _ _ (every-at _ (in-range p h) 0)) (lit≤ tt);
         }
 
@@ -274,8 +275,8 @@ module _ (m : Model) (o : inOrder m ≡ true) where
           ready = byTest (isPartition m p)
               (λ t. all-ready (partition m p .records) (or-right (partition m p .up) (up-or-ready p (ltb-true _ _ t)) u))
               (λ t. rw (absent m p (ltb-false _ _ t)) (unfold keep in refl));
-          from = λ q h. byTest (ltb p 4) (λ t. quiet p q (ltb-true _ _ t) h (rw u refl)) (λ t. far p q (ltb-false _ _ t));
-          to = λ q h. byTest (ltb q 4) (λ t. quiet q p (ltb-true _ _ t) h (rw u (and-false (partition m q .up)))) (λ t. far q p (ltb-false _ _ t));
+          from = λ q h. byTest (ltb p maxPartitions) (λ t. quiet p q (ltb-true _ _ t) h (rw u refl)) (λ t. far p q (ltb-false _ _ t));
+          to = λ q h. byTest (ltb q maxPartitions) (λ t. quiet q p (ltb-true _ _ t) h (rw u (and-false (partition m q .up)))) (λ t. far q p (ltb-false _ _ t));
         }
 
   -- O6: a message about p's number n has its sent record
@@ -288,7 +289,7 @@ module _ (m : Model) (o : inOrder m ≡ true) where
     matches : matches is x ≡ true
     body : bodyFits (x .kind) (x .body) ≡ true
 
-  sender : (p n a b : ℕ) → a < 4 → b < 4 → (x : Message) → List·Memᴰ x (queue m a b) → about a b p n x ≡ true → Sender p n a b x
+  sender : (p n a b : ℕ) → a < maxPartitions → b < maxPartitions → (x : Message) → List·Memᴰ x (queue m a b) → about a b p n x ≡ true → Sender p n a b x
   unfolding matches
   sender p n a b ha hb x i t =
       let ep : giver (x .body) a b ≡ p = eqb-true _ _ (and-left _ _ t) in
@@ -318,30 +319,30 @@ module _ (m : Model) (o : inOrder m ≡ true) where
     bear-fine q b i = back-fine q b (keep-mem (backpointerBears p n) (partition m q .backpointers) b i)
 
     -- messages of n stand nowhere
-    no-mail : ((r : Record) → List·Memᴰ r (keep (recordBears n) (partition m p .records)) → isSent (r .stage) ≡ true → ⊥) → (a b : ℕ) → b < 4
+    no-mail : ((r : Record) → List·Memᴰ r (keep (recordBears n) (partition m p .records)) → isSent (r .stage) ≡ true → ⊥) → (a b : ℕ) → b < maxPartitions
         → keep (about a b p n) (queue m a b) ≡ []
     no-mail h a b hb =
-        byTest (ltb a 4)
+        byTest (ltb a maxPartitions)
         (λ t. keep-nil (about a b p n) (queue m a b)
         (λ x i u. let s : Sender p n a b x = sender p n a b (ltb-true _ _ t) hb x i u in h (s .is) (s .here) (s .sent)))
         (λ t. rw (far a b (ltb-false _ _ t)) (unfold keep in refl))
 
     -- or only at one place
-    module _ (g : Message → Bool) (u v : ℕ) (hu : u < 4) (hv : v < 4) (y : Message)
-        (to : (a b : ℕ) → a < 4 → b < 4 → (x : Message) → List·Memᴰ x (queue m a b) → about a b p n x ≡ true → (a ≡ u) × (b ≡ v) × (g x ≡ true))
+    module _ (g : Message → Bool) (u v : ℕ) (hu : u < maxPartitions) (hv : v < maxPartitions) (y : Message)
+        (to : (a b : ℕ) → a < maxPartitions → b < maxPartitions → (x : Message) → List·Memᴰ x (queue m a b) → about a b p n x ≡ true → (a ≡ u) × (b ≡ v) × (g x ≡ true))
         (from : (x : Message) → g x ≡ true → about u v p n x ≡ true) (l : keep g (queue m u v) ≡ y ∷ []) where
-      only-at : (a b : ℕ) → b < 4 → keep (about a b p n) (queue m a b) ≡ one (eqb a u && eqb b v) y
+      only-at : (a b : ℕ) → b < maxPartitions → keep (about a b p n) (queue m a b) ≡ one (eqb a u && eqb b v) y
       only-at a b hb =
           byTest (eqb a u && eqb b v)
           (λ t. rw (t, eqb-true a u (and-left _ _ t), eqb-true b v (and-right (eqb a u) _ t))
           (keep-same (about u v p n) g (queue m u v) (λ x i. bool-same (about u v p n x) (g x) (λ e. to u v hu hv x i e .2) (from x)) ∙ l))
-          (λ t. rw t (byTest (ltb a 4)
+          (λ t. rw t (byTest (ltb a maxPartitions)
           (λ ta. keep-nil (about a b p n) (queue m a b)
           (λ x i e. let z = to a b (ltb-true _ _ ta) hb x i e in no-true (both-true (eq-eqb a u (z .0)) (eq-eqb b v (z .1))) t))
           (λ ta. rw (far a b (ltb-false _ _ ta)) (unfold keep in refl))))
 
     fit : (c : Content) (w : Way) → Sound m c w → keep (recordBears n) (partition m p .records) ≡ recsOf c n w
-        → ((a b : ℕ) → b < 4 → keep (about a b p n) (queue m a b) ≡ letters c n p (mailOf w) a b) → Fit m p n
+        → ((a b : ℕ) → b < maxPartitions → keep (about a b p n) (queue m a b) ≡ letters c n p (mailOf w) a b) → Fit m p n
     fit c w s r f =
         record {
           what = c;
@@ -377,18 +378,18 @@ module _ (m : Model) (o : inOrder m ≡ true) where
       abbrev q : ℕ
       q = r .partition
 
-      p4 : p < 4
-      p4 = let a = record-in p r here in let b = shape .partitions in omega arith
+      p4 : p < maxPartitions
+      p4 = four shape p (record-in p r here)
 
-      q4 : q < 4
-      q4 = let a = fine .partition in let b = shape .partitions in omega arith
+      q4 : q < maxPartitions
+      q4 = four shape q (fine .partition)
 
       module _ (t : isSent (r .stage) ≡ true) where
         records : keep (recordBears n) (partition m p .records) ≡ recordAt (ofRecord r) n (r .kind) Sent ∷ []
         records = e ∙ ap (λ (z : Record). z ∷ []) (sent-is r n number t)
 
         -- a message is the request, or an answer
-        sorted : (a b : ℕ) → a < 4 → b < 4 → (x : Message) → List·Memᴰ x (queue m a b) → about a b p n x ≡ true
+        sorted : (a b : ℕ) → a < maxPartitions → b < maxPartitions → (x : Message) → List·Memᴰ x (queue m a b) → about a b p n x ≡ true
             → ((isRequestOf r x ≡ true) × (a ≡ p) × (b ≡ q)) ⊎ ((isAnswerTo r x ≡ true) × (a ≡ q) × (b ≡ p))
         sorted a b ha hb x i u =
             let s : Sender p n a b x = sender p n a b ha hb x i u in
@@ -406,7 +407,7 @@ module _ (m : Model) (o : inOrder m ≡ true) where
             (λ a b hb. only-at (isRequestOf r) p q p4 q4 x to (λ y u. rw number at (asks-about r p q y u)) ea a b hb ∙ ap
             (one (eqb a p && eqb b q)) is)
           where
-            to : (a b : ℕ) → a < 4 → b < 4 → (y : Message) → List·Memᴰ y (queue m a b) → about a b p n y ≡ true
+            to : (a b : ℕ) → a < maxPartitions → b < maxPartitions → (y : Message) → List·Memᴰ y (queue m a b) → about a b p n y ≡ true
                 → (a ≡ p) × (b ≡ q) × (isRequestOf r y ≡ true)
             to a b ha hb y i u = elim (sorted a b ha hb y i u) [
               | inl z ↦ (z .1, z .2, z .0)
@@ -425,7 +426,7 @@ module _ (m : Model) (o : inOrder m ≡ true) where
             (λ a b hb. only-at (isAnswerTo r) q p q4 p4 x to (λ y u. rw number at (answers-about r p q y u)) eb a b hb ∙ ap
             (one (eqb a q && eqb b p)) is)
           where
-            to : (a b : ℕ) → a < 4 → b < 4 → (y : Message) → List·Memᴰ y (queue m a b) → about a b p n y ≡ true
+            to : (a b : ℕ) → a < maxPartitions → b < maxPartitions → (y : Message) → List·Memᴰ y (queue m a b) → about a b p n y ≡ true
                 → (a ≡ q) × (b ≡ p) × (isAnswerTo r y ≡ true)
             to a b ha hb y i u = elim (sorted a b ha hb y i u) [
               | inl z ↦ absurd (List·Memᴰ·not-nil (rw ea at (mem-keep (isRequestOf r) (queue m p q) y (rw (z .1, z .2) at i) (z .0))))

@@ -2,8 +2,7 @@
 use mathlib.Core.Bool.{Bool, _&&_, false, not, true}
 use mathlib.Core.List.{List, [], _∷_, head-eq-of-cons-eq}
 use mathlib.Core.Path.{_∙_, _≡_, ap, refl, sym}
-use Prim.Native.Nat.{_<_, _≤_, ℕ}
-use native.Mathlib.Omega.{arith}
+use Prim.Native.Nat.{_≤_, ℕ}
 use lib.Dec.{T, eqb}
 use lib.ListN.{length}
 use borrow.Author.Tests.{eq-eqb}
@@ -22,7 +21,7 @@ use Rattle.protocol.proofs.Advances.{advance-cases, sent-stays}
 use Rattle.protocol.proofs.Changes.{alter-else, alter-view, close-else, close-view, enter-else, enter-view, exact-same, grow-else, grow-view, home-else, home-view, leave-else, leave-view, no-step, out-else, out-view, say-else, say-view, sent, sent-else, sent-view, shrink-else, shrink-view}
 use Rattle.protocol.proofs.Content.{Content, DownsRest, Fine, backpointerAt, entryAt, fine-else, messageAt, recordAt}
 use Rattle.protocol.proofs.Few.{answer-giver}
-use Rattle.protocol.proofs.Look.{Shape, place-true, up-in}
+use Rattle.protocol.proofs.Look.{Shape, place-true, up-four}
 use Rattle.protocol.proofs.Neat.{neat-enter, neat-stage, neat-turn}
 use Rattle.protocol.proofs.Numbers.{Else, View, about, else-trans, part-queue}
 use Rattle.protocol.proofs.Oldest.{deliver-cases, home-in, none-in, out-in}
@@ -218,9 +217,6 @@ keyed-queue m a b l ky q o g d t = rw (part-queue m a b l q) (ky q o g d t)
 
 module _ (m : Model) (p n : ℕ) (c : Content) (s : Shape m) (ky : Keyed m) (a b : ℕ) (ha : partition m a .up ≡ true) (hb : partition m b .up ≡ true)
     (fi : Fine m c) (x : Message) (l : List Message) (q : queue m a b ≡ x ∷ l) (is : about a b p n x ≡ true) where
-  four : b < 4
-  four = let k = s .partitions in let l = up-in m b hb in omega arith
-
   abbrev Goes : Model → Type 0
   Goes m′ = Tied m m′ p n
 
@@ -249,11 +245,11 @@ module _ (m : Model) (p n : ℕ) (c : Content) (s : Shape m) (ky : Keyed m) (a b
       (keyed-queue m p (c .partition) l ky) (out-view m p n c s h hq fi k l z v))
 
   deliver-in : (w : Way) (e st : Bool) → rule w e st ≡ true → Has m p n c w e st → Goes (receive (x .body) (setQueue m a b l) a b x)
-  deliver-in idle e st r v = none-in m p n c a b ha hb x l q is Goes (v .messages a b four)
-  deliver-in (rests k t) e st r v = none-in m p n c a b ha hb x l q is Goes (v .messages a b four)
-  deliver-in (asking k) e st r v = out-in m p n c a b ha hb x l q is Goes k (v .messages a b four) (λ h hq z. out-tied k e st r h hq z v)
+  deliver-in idle e st r v = none-in m p n c a b ha hb x l q is Goes (v .messages a b (up-four s b hb))
+  deliver-in (rests k t) e st r v = none-in m p n c a b ha hb x l q is Goes (v .messages a b (up-four s b hb))
+  deliver-in (asking k) e st r v = out-in m p n c a b ha hb x l q is Goes k (v .messages a b (up-four s b hb)) (λ h hq z. out-tied k e st r h hq z v)
   deliver-in (told k t) e st r v =
-      home-in m p n c a b ha hb x l q is Goes k t (rule-lands k t e st r .0) (v .messages a b four) (λ h hq z. land-tied k t e st r h hq z v)
+      home-in m p n c a b ha hb x l q is Goes k t (rule-lands k t e st r .0) (v .messages a b (up-four s b hb)) (λ h hq z. land-tied k t e st r h hq z v)
 
 pub record Delivered (m m′ : Model) : Type 0 where
   pub giver : ℕ

@@ -7,6 +7,7 @@ use lib.Dec.{eqb, leb}
 use lib.ListN.{length}
 use borrow.Author.Tests.{leb-false}
 use Rattle.lists.specs.Lists.{keep}
+use Rattle.protocol.specs.Bounds.{maxBackpointers}
 use Rattle.protocol.specs.Deliver.{addVerdict, dropVerdict, inItsPlace, isExactly, ofObject, placeVerdict, unlessFull, verdictOf}
 use Rattle.protocol.specs.Elements.{AddsIt, Backpointer, BackpointersFull, Create, DropsIt, Kind, Link, Message, No, NoBecause, ObjectIdle, ObjectInUse, PlaceTaken, Reason, SaysOnly, Unlink, Verdict, Yes, adds}
 use Rattle.lists.proofs.Tests.{byTest, no-true}
@@ -19,18 +20,18 @@ module _ (bs : List Backpointer) (p : ℕ) (x : Message) where
     placeOther : {k : Kind} → adds k ≡ true → (y : Backpointer) (ys : List Backpointer) → keep (inItsPlace p x) bs ≡ y ∷ ys
         → eqb (y .number) (x .number) ≡ false → Judged k (SaysOnly (NoBecause PlaceTaken))
     refusing : {k : Kind} → adds k ≡ true → keep (inItsPlace p x) bs ≡ [] → (why : Reason) → Judged k (SaysOnly (NoBecause why))
-    adding : {k : Kind} → adds k ≡ true → keep (inItsPlace p x) bs ≡ [] → length bs < 64 → Judged k AddsIt
+    adding : {k : Kind} → adds k ≡ true → keep (inItsPlace p x) bs ≡ [] → length bs < maxBackpointers → Judged k AddsIt
     missing : {k : Kind} → adds k ≡ false → keep (isExactly p x) bs ≡ [] → Judged k (SaysOnly No)
     dropping : {k : Kind} → adds k ≡ false → Judged k DropsIt
 
-  full-judged : (k : Kind) → adds k ≡ true → keep (inItsPlace p x) bs ≡ [] → (full : Bool) → leb 64 (length bs) ≡ full → Judged k (unlessFull full)
+  full-judged : (k : Kind) → adds k ≡ true → keep (inItsPlace p x) bs ≡ [] → (full : Bool) → leb maxBackpointers (length bs) ≡ full → Judged k (unlessFull full)
   full-judged k a e true f = refusing a e BackpointersFull
-  full-judged k a e false f = adding a e (leb-false 64 (length bs) f)
+  full-judged k a e false f = adding a e (leb-false maxBackpointers (length bs) f)
 
-  add-judged : (k : Kind) → adds k ≡ true → keep (inItsPlace p x) bs ≡ [] → (os : List Backpointer) → Judged k (addVerdict k os (leb 64 (length bs)))
+  add-judged : (k : Kind) → adds k ≡ true → keep (inItsPlace p x) bs ≡ [] → (os : List Backpointer) → Judged k (addVerdict k os (leb maxBackpointers (length bs)))
   add-judged Link a e [] = refusing a e ObjectIdle
-  add-judged Link a e (o ∷ os) = full-judged Link a e (leb 64 (length bs)) refl
-  add-judged Create a e [] = full-judged Create a e (leb 64 (length bs)) refl
+  add-judged Link a e (o ∷ os) = full-judged Link a e (leb maxBackpointers (length bs)) refl
+  add-judged Create a e [] = full-judged Create a e (leb maxBackpointers (length bs)) refl
   add-judged Create a e (o ∷ os) = refusing a e ObjectInUse
   add-judged Unlink a e os = no-true a refl
 

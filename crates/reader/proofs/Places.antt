@@ -7,10 +7,9 @@ use native.Mathlib.Omega.{arith}
 use lib.Dec.{eqb, leb, ltb}
 use lib.ListN.{drop, length, length-append, take}
 use lib.Seq.{drop-at, take-at}
-use borrow.Author.Tests.{eqb-true, le-leb, le-ltb, leb-true, ne-eqb}
+use borrow.Author.Tests.{le-leb, le-ltb, leb-true, ne-eqb}
 use Rattle.lists.specs.Lists.{all}
 use Rattle.names.specs.Names.{goodName}
-use Rattle.names.specs.declared.Name.{Name}
 use Rattle.protocol.specs.Bounds.{maxBackpointers, maxEntries, maxRecords}
 use Rattle.protocol.specs.declared.Backpointer.{Backpointer}
 use Rattle.protocol.specs.declared.Entry.{Entry}
@@ -23,10 +22,10 @@ use Rattle.picture.specs.Rows.{Row, begins, body, fits, marked, more, next, one
 use Rattle.picture.specs.Standing.{handedAt, handedBehind, handedNext, handedUnder}
 use Rattle.picture.specs.declared.Head.{Head}
 use Rattle.lists.proofs.Keep.{snoc-length}
-use Rattle.lists.proofs.Tests.{and-left, and-right, both-true, every-at}
+use Rattle.lists.proofs.Tests.{and-left, and-right, both-true}
 use Rattle.picture.proofs.Forms.{lawful-BP, lawful-EN, lawful-LG}
-use Rattle.picture.proofs.Lengths.{Eight, backpointer-length, entry-length, head-length, record-length}
-use Rattle.picture.proofs.Rounds.{body-only, many-reads, not-many}
+use Rattle.picture.proofs.Lengths.{backpointer-length, entry-length, good-eight, head-length, record-length}
+use Rattle.picture.proofs.Rounds.{body-only, many-reads, not-many, rows-more}
 use Rattle.picture.proofs.Tabular.{rest-bytes}
 
 -- ---- a record more of one kind
@@ -47,21 +46,12 @@ module _ {A : Type 0} (w : Row A) (test : A → Bool) where
       let m : length (xs ++ x ∷ []) ≤ cap = rw (snoc-length xs x) (omega arith) in
       both-true (fits-more [] xs x (and-left _ _ f) a b) (le-leb _ _ m)
 
-  rows-more : (xs : List A) (x : A) → putRows w (xs ++ x ∷ []) ≡ putRows w xs ++ putRow w x
-  unfolding putRows
-  rows-more [] x = append-nil (putRow w x)
-  rows-more (y ∷ xs) x = ap (λ (l : List ℕ). putRow w y ++ l) (rows-more xs x) ∙ sym (append-assoc (putRow w y) (putRows w xs) (putRow w x))
-
 pub not-none : {A : Type 0} (b : Bool) (xs : List A) (x : A) → (b && eqb (length (xs ++ x ∷ [])) 0) ≡ false
 not-none b xs x =
     let k = snoc-length xs x in
     rw (ne-eqb (length (xs ++ x ∷ [])) 0 (λ z. absurd (omega (arith, k, z)))) (and-false b)
 
 -- ---- how long a record that fits is
-
-good-eight : (s : Name) → goodName s ≡ true → Eight s
-unfolding goodName
-good-eight s g = eqb-true _ _ (every-at _ g 2)
 
 module _ (h : Head) where
   entry-size : (e : Entry) → entryFits h e ≡ true → length (putRow (EN first) e) ≡ 18
@@ -142,7 +132,7 @@ module _ (s : List ℕ) (bytes : all isByte s ≡ true) (h : Head) (tail : List 
     entry-passed p m l b =
         let o = body-only (EN first) (lawful-EN first) FieldOutOfRange (entryFits h) bs x r (rest-is _ bs p) m b in
         let g : putRows (EN first) (es ++ x ∷ []) ++ [] ≡ (putRows (EN first) es ++ []) ++ putRow (EN first) x =
-        append-nil _ ∙ rows-more (EN first) (entryFits h) es x ∙ ap (λ (k : List ℕ). k ++ putRow (EN first) x) (sym (append-nil (putRows (EN first) es))) in
+        append-nil _ ∙ rows-more (EN first) es x ∙ ap (λ (k : List ℕ). k ++ putRow (EN first) x) (sym (append-nil (putRows (EN first) es))) in
         let f = further (es, ([], ([], tt))) (es ++ x ∷ [], ([], ([], tt))) bs r (putRow (EN first) x) p (o .0) g (omega (arith, entry-size h x (o .2), snoc-length es x)) in
         record { split = f .0; long = f .1; entries = fine-more (EN first) (entryFits h) maxEntries es x (p .entries) (o .1) (o .2) l; backpointers = p .backpointers; records = p .records }
 
@@ -155,7 +145,7 @@ module _ (s : List ℕ) (bytes : all isByte s ≡ true) (h : Head) (tail : List 
         let E = putRows (EN first) es in
         let K = putRows (BP first) ks in
         let g : E ++ (putRows (BP first) (ks ++ x ∷ []) ++ []) ≡ (E ++ (K ++ [])) ++ putRow (BP first) x =
-        rw (append-nil (putRows (BP first) (ks ++ x ∷ [])), append-nil K, rows-more (BP first) (backpointerFits h) ks x) (sym (append-assoc E K (putRow (BP first) x))) in
+        rw (append-nil (putRows (BP first) (ks ++ x ∷ [])), append-nil K, rows-more (BP first) ks x) (sym (append-assoc E K (putRow (BP first) x))) in
         let f = further (es, (ks, ([], tt))) (es, (ks ++ x ∷ [], ([], tt))) bs r (putRow (BP first) x) p (o .0) g (omega (arith, backpointer-size h x (o .2), snoc-length ks x)) in
         record { split = f .0; long = f .1; entries = p .entries; backpointers = fine-more (BP first) (backpointerFits h) maxBackpointers ks x (p .backpointers) (o .1) (o .2) l; records = p .records }
 
@@ -168,6 +158,6 @@ module _ (s : List ℕ) (bytes : all isByte s ≡ true) (h : Head) (tail : List 
         let K = putRows (BP first) ks in
         let L = putRows (LG first) rs in
         let g : E ++ (K ++ (putRows (LG first) (rs ++ x ∷ []) ++ [])) ≡ (E ++ (K ++ (L ++ []))) ++ putRow (LG first) x =
-        rw (append-nil (putRows (LG first) (rs ++ x ∷ [])), append-nil L, rows-more (LG first) (recordFits h) rs x, append-assoc E (K ++ L) (putRow (LG first) x), append-assoc K L (putRow (LG first) x)) refl in
+        rw (append-nil (putRows (LG first) (rs ++ x ∷ [])), append-nil L, rows-more (LG first) rs x, append-assoc E (K ++ L) (putRow (LG first) x), append-assoc K L (putRow (LG first) x)) refl in
         let f = further (es, (ks, (rs, tt))) (es, (ks, (rs ++ x ∷ [], tt))) bs r (putRow (LG first) x) p (o .0) g (omega (arith, record-size h x (o .2), snoc-length rs x)) in
         record { split = f .0; long = f .1; entries = p .entries; backpointers = p .backpointers; records = fine-more (LG first) (recordFits h) maxRecords rs x (p .records) (o .1) (o .2) l }

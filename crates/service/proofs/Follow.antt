@@ -3,7 +3,7 @@ use mathlib.Core.Bool.{true}
 use mathlib.Core.List.{List, [], _∷_}
 use mathlib.Core.Path.{_∙_, _≡_, ap, refl, sym}
 use Prim.Native.Nat.{_≤_, ℕ}
-use Rattle.lists.proofs.Tests.{byTest, every-at}
+use Rattle.lists.proofs.Tests.{byTest}
 use Rattle.protocol.specs.Answers.{Outcome, accepted}
 use Rattle.protocol.specs.Bounds.{maxPartitions}
 use Rattle.protocol.specs.Events.{Event, apply, run}
@@ -12,22 +12,18 @@ use Rattle.protocol.specs.Settle.{settle}
 use Rattle.protocol.specs.Tables.{Model, fresh}
 use Rattle.protocol.specs.declared.Tally.{Tally}
 use Rattle.protocol.proofs.Claimed.{order-kept, refusals-keep}
-use Rattle.tables.specs.View.{pack, shaped, view}
+use Rattle.tables.specs.View.{pack, view}
 use Rattle.tables.proofs.Packs.{view-pack}
-use Rattle.tables.proofs.Shapes.{pack-shaped}
+use Rattle.tables.proofs.Shapes.{order-shaped}
 use Rattle.events.specs.Called.{called, stored}
 use Rattle.settle.specs.Settled.{settled, settledOn}
 use Rattle.service.specs.Calls.{afterCalls, reachedBy}
-
-pub in-order-shaped : (m : Model) → inOrder m ≡ true → shaped (pack m) ≡ true
-unfolding inOrder
-in-order-shaped m o = pack-shaped m (every-at _ o 0)
 
 -- what is stored of an outcome, where a refusal leaves the tables
 module _ (e : Event) (m : Model) (o : inOrder m ≡ true) where
   follows : called (pack m) e ≡ stored (pack m) (apply e m)
   unfolding called
-  follows = rw (in-order-shaped m o, view-pack m) refl
+  follows = rw (order-shaped m o, view-pack m) refl
 
   pub call-answers : called (pack m) e .answer ≡ apply e m .answer
   unfolding stored
@@ -42,7 +38,7 @@ module _ (e : Event) (m : Model) (o : inOrder m ≡ true) where
 
 pub settle-follows : (n : ℕ) (y : Tally) (m : Model) → inOrder m ≡ true → settled (pack m) n y ≡ settledOn (pack m) (settle n y m)
 unfolding settled
-settle-follows n y m o = rw (in-order-shaped m o, view-pack m) refl
+settle-follows n y m o = rw (order-shaped m o, view-pack m) refl
 
 calls-follow : (es : List Event) (m : Model) → inOrder m ≡ true → afterCalls es (pack m) ≡ pack (run es m)
 unfolding afterCalls run

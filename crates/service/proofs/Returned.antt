@@ -1,14 +1,15 @@
 -- What was written of a partition is loaded back.
 use mathlib.Core.Bool.{false, true}
-use mathlib.Core.List.{List, [], _++_, _∷_}
-use mathlib.Core.Path.{_∙_, _≡_, ap, refl, sym}
-use Prim.Native.Nat.{_+_, _≤_, suc, zero, ℕ}
+use mathlib.Core.List.{List}
+use mathlib.Core.Path.{_∙_, _≡_, ap, refl}
+use Prim.Native.Nat.{_+_, _≤_, ℕ}
 use native.Mathlib.Nat.{le-trans}
 use lib.ListN.{drop, length, take}
+use lib.Seq.{take-at}
 use borrow.Author.Tests.{le-leb}
 use Rattle.codec.specs.Over.{over}
-use Rattle.protocol.specs.Answers.{accept, check}
-use Rattle.protocol.specs.Events.{Crashing, Event, apply, bare}
+use Rattle.protocol.specs.Answers.{accept}
+use Rattle.protocol.specs.Events.{Crashing, apply, bare}
 use Rattle.protocol.specs.Faults.{crash}
 use Rattle.protocol.specs.Order.{inOrder}
 use Rattle.protocol.specs.Tables.{Model, isPartition, partition}
@@ -16,8 +17,8 @@ use Rattle.protocol.specs.declared.Reply.the-variants.{None}
 use Rattle.protocol.proofs.Applied.{apply-is}
 use Rattle.protocol.proofs.Kept.{keeps-order}
 use Rattle.tables.specs.View.{pack}
-use Rattle.tables.specs.declared.Tables.{Tables}
 use Rattle.tables.proofs.Packs.{view-pack}
+use Rattle.tables.proofs.Shapes.{order-shaped}
 use Rattle.events.specs.Called.{acceptedWith, called, stored}
 use Rattle.picture.specs.Picture.{first, largestPicture, pictureOf, write}
 use Rattle.picture.specs.Store.{load, store, writtenInto}
@@ -25,15 +26,11 @@ use Rattle.picture.proofs.Claimed.{claimed}
 use Rattle.writing.specs.Written.{writtenFrom}
 use Rattle.loading.specs.Loaded.{loaded}
 use Rattle.service.specs.Calls.{pictureIn}
-use Rattle.service.proofs.Follow.{call-stores, in-order-shaped}
-
-take-front : (bs l : List ℕ) → take (length bs) (bs ++ l) ≡ bs
-take-front [] l = refl
-take-front (b ∷ bs) l = ap (λ (r : List ℕ). b ∷ r) (take-front bs l)
+use Rattle.service.proofs.Follow.{call-stores}
 
 take-over : (bs l : List ℕ) → take (length bs) (over l 0 bs) ≡ bs
 unfolding over
-take-over bs l = take-front bs (drop (0 + length bs) l)
+take-over bs l = take-at bs (drop (0 + length bs) l) (length bs) refl
 
 module _ (m : Model) (p : ℕ) (room : List ℕ) (o : inOrder m ≡ true) (i : isPartition m p ≡ true) (h : largestPicture ≤ length room) where
   abbrev bytes : List ℕ
@@ -43,12 +40,12 @@ module _ (m : Model) (p : ℕ) (room : List ℕ) (o : inOrder m ≡ true) (i : i
   unfolding writtenFrom store writtenInto
   written =
       let l = le-leb _ _ (le-trans (claimed .2 m p o i) h) in
-      rw (in-order-shaped m o, view-pack m, o, i, l) (take-over bytes room)
+      rw (order-shaped m o, view-pack m, o, i, l) (take-over bytes room)
 
 -- load on stored tables in order
 load-stored : (m n : Model) (p : ℕ) (bs : List ℕ) → inOrder m ≡ true → load m p bs ≡ accept 0 None n → loaded (pack m) p bs ≡ acceptedWith (pack n) 0 None
 unfolding loaded stored
-load-stored m n p bs o e = rw (in-order-shaped m o, view-pack m, e) refl
+load-stored m n p bs o e = rw (order-shaped m o, view-pack m, e) refl
 
 module _ (m : Model) (p : ℕ) (room : List ℕ) (o : inOrder m ≡ true) (i : isPartition m p ≡ true) (h : largestPicture ≤ length room) where
   pub loads-back : partition m p .up ≡ false → loaded (pack m) p (pictureIn (pack m) p room) ≡ acceptedWith (pack m) 0 None

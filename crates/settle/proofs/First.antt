@@ -2,7 +2,7 @@
 use mathlib.Core.Bool.{false, true}
 use mathlib.Core.List.{List, [], _++_, _∷_, map}
 use mathlib.Core.Path.{_∙_, _≡_, ap, refl, sym}
-use Prim.Native.Nat.{_+_, _<_, _≤_, suc, zero, ℕ}
+use Prim.Native.Nat.{_+_, _<_, suc, zero, ℕ}
 use native.Mathlib.Numerals.{add-one}
 use native.Mathlib.Omega.{arith}
 use lib.Dec.{eqb}
@@ -12,44 +12,37 @@ use Rattle.lists.specs.Lists.{each}
 use Rattle.lists.proofs.Tests.{byTest}
 use Rattle.protocol.specs.Answers.{Outcome, accepted}
 use Rattle.protocol.specs.Events.{Event}
-use Rattle.protocol.specs.Settle.{Found, firstAccepted, found, nothing}
+use Rattle.protocol.specs.Settle.{firstAccepted, found, nothing}
 use Rattle.protocol.specs.Tables.{Model}
+use Rattle.protocol.proofs.Settling.{first-hit, first-miss}
 
 module _ (f : Event → Model → Outcome) (m : Model) where
-  first-hit : (e : Event) (es : List Event) → accepted (f e m) ≡ true → firstAccepted f m (e ∷ es) ≡ found e
-  unfolding firstAccepted
-  first-hit e es t = rw (t, firstAccepted) refl
-
-  first-miss : (e : Event) (es : List Event) → accepted (f e m) ≡ false → firstAccepted f m (e ∷ es) ≡ firstAccepted f m es
-  unfolding firstAccepted
-  first-miss e es t = rw (t, firstAccepted) refl
-
   pub first-none : firstAccepted f m [] ≡ nothing
   unfolding firstAccepted
   first-none = refl
 
   -- one candidate alone
   pub first-one : (e : Event) → accepted (f e m) ≡ true → firstAccepted f m (e ∷ []) ≡ found e
-  first-one e t = first-hit e [] t
+  first-one e t = first-hit f m e [] t
 
   pub first-refused : (e : Event) → accepted (f e m) ≡ false → firstAccepted f m (e ∷ []) ≡ nothing
-  first-refused e t = first-miss e [] t ∙ first-none
+  first-refused e t = first-miss f m e [] t ∙ first-none
 
   -- behind candidates of which none is accepted
   pub first-past : (xs ys : List Event) → firstAccepted f m xs ≡ nothing → firstAccepted f m (xs ++ ys) ≡ firstAccepted f m ys
   first-past [] ys h = refl
   first-past (x ∷ xs) ys h =
       byTest (accepted (f x m))
-      (λ t. absurd (let z : _≡_ {A = ℕ} 0 1 = cc (first-hit x xs t) in omega arith))
-      (λ t. first-miss x (xs ++ ys) t ∙ first-past xs ys (sym (first-miss x xs t) ∙ h))
+      (λ t. absurd (let z : _≡_ {A = ℕ} 0 1 = cc (first-hit f m x xs t) in omega arith))
+      (λ t. first-miss f m x (xs ++ ys) t ∙ first-past xs ys (sym (first-miss f m x xs t) ∙ h))
 
   -- and before others
   pub first-kept : (xs ys : List Event) (e : Event) → firstAccepted f m xs ≡ found e → firstAccepted f m (xs ++ ys) ≡ found e
   first-kept [] ys e h = absurd (let z : _≡_ {A = ℕ} 0 1 = cc first-none in omega arith)
   first-kept (x ∷ xs) ys e h =
       byTest (accepted (f x m))
-      (λ t. first-hit x (xs ++ ys) t ∙ sym (first-hit x xs t) ∙ h)
-      (λ t. first-miss x (xs ++ ys) t ∙ first-kept xs ys e (sym (first-miss x xs t) ∙ h))
+      (λ t. first-hit f m x (xs ++ ys) t ∙ sym (first-hit f m x xs t) ∙ h)
+      (λ t. first-miss f m x (xs ++ ys) t ∙ first-kept xs ys e (sym (first-miss f m x xs t) ∙ h))
 
   -- the lists g 0, g 1 and so on, one after the other
   module _ (g : ℕ → List Event) where

@@ -4,7 +4,7 @@ use mathlib.Core.Path.{_∙_, _≡_, ap, refl, sym}
 use Prim.Native.Nat.{_+_, _-_, _<_, _≤_, suc, zero, ℕ}
 use native.Mathlib.Numerals.{add-one}
 use native.Mathlib.Omega.{arith}
-use Rattle.lists.proofs.Tests.{and-left, and-right, byTest, every-at, no-true}
+use Rattle.lists.proofs.Tests.{and-left, and-right, byTest, no-true}
 use Rattle.protocol.specs.Bounds.{largestNumber}
 use Rattle.protocol.specs.Elements.{isOne, isOther}
 use Rattle.protocol.specs.Events.{Event, bare}
@@ -15,21 +15,20 @@ use Rattle.protocol.specs.declared.Refusal.the-variants.{Accepted, OutOfOrder}
 use Rattle.protocol.specs.declared.Reply.{Reply}
 use Rattle.protocol.specs.declared.Tally.{Tally}
 use Rattle.protocol.proofs.Kept.{keeps-order}
-use Rattle.protocol.proofs.Settling.{settle-refuses, settle-untested}
+use Rattle.protocol.proofs.Settling.{settle-found, settle-nothing, settle-refuses, settle-untested}
 use Rattle.tables.specs.View.{Sized, pack, shaped, view}
 use Rattle.tables.specs.declared.Tables.{Tables}
 use Rattle.tables.proofs.Packs.{pack-view, view-pack}
-use Rattle.tables.proofs.Shapes.{pack-shaped}
+use Rattle.tables.proofs.Shapes.{order-shaped}
 use Rattle.events.specs.Called.{Ready}
 use Rattle.settle.specs.Settled.{Counts, Settled, Step, settled, settledOn, stepOf}
 
 -- ---- tables in order, stored
 
 in-order-ready : (m : Model) (u : Tables) → inOrder m ≡ true → u ≡ pack m → Ready u
-unfolding inOrder
 in-order-ready m u o e =
     let v : view u ≡ m = ap view e ∙ view-pack m in
-    record { shaped = rw e (pack-shaped m (every-at _ o 0)); order = rw v o }
+    record { shaped = rw e (order-shaped m o); order = rw v o }
 
 -- ---- the two ways on
 
@@ -50,16 +49,6 @@ module _ (t : Tables) (a : Step) where
     leaves : a .tables ≡ pack (bare e (view t) .model)
     unfolding stepOf
     leaves = ap (λ (s : Step). s .tables) h
-
-module _ (n : ℕ) (y : Tally) (m : Model) where
-  settle-nothing : firstAccepted bare m (candidates m) ≡ nothing → settleBy bare (suc n) y m ≡ rested y m
-  unfolding settleBy
-  settle-nothing h = rw (h, settleBy) refl
-
-  settle-found : (e : Event) → firstAccepted bare m (candidates m) ≡ found e
-      → settleBy bare (suc n) y m ≡ settleBy bare n (tallied (bare e m .answer .reply) y) (bare e m .model)
-  unfolding settleBy
-  settle-found e h = rw (h, settleBy) refl
 
 plus-most : (b : Bool) (k j : ℕ) → k ≤ j → plusIf b k ≤ suc j
 plus-most true k j h = omega arith
@@ -120,7 +109,7 @@ module _ (t : Tables) (n k : ℕ) (y : Tally) (u : Tables) (w : Running t n k y 
     run-rests s f g = go (firstAccepted bare (view u) (candidates (view u))) refl
       where
         go : (x : Found) → firstAccepted bare (view u) (candidates (view u)) ≡ x → s ≡ settledOn t (settleBy bare n zeroTally (view t))
-        go nothing q = at-rest s (ap (λ (j : ℕ). settleBy bare j y (view u)) left ∙ settle-nothing (k - 1) y (view u) q) g
+        go nothing q = at-rest s (ap (λ (j : ℕ). settleBy bare j y (view u)) left ∙ settle-nothing bare (k - 1) y (view u) q) g
         go (found v) q = no-true (moves u a v (e ∙ ap (stepOf u) q)) f
 
     pub run-turn : (reply : Reply) (v : Tables) (x : Tally) → a .moved ≡ true → reply ≡ a .reply → v ≡ a .tables → x ≡ tallied reply y → Running t n (k - 1) x v
@@ -139,7 +128,7 @@ module _ (t : Tables) (n k : ℕ) (y : Tally) (u : Tables) (w : Running t n k y 
               packed = ap pack im ∙ sym iv;
               rest = ap (settleBy bare (k - 1) x) im
                   ∙ ap (λ (y′ : Tally). settleBy bare (k - 1) y′ (bare c (view u) .model)) (ex ∙ ap (λ (l : Reply). tallied l y) ir)
-                  ∙ sym (settle-found (k - 1) y (view u) c q) ∙ ap (λ (j : ℕ). settleBy bare j y (view u)) (sym left) ∙ w .rest;
+                  ∙ sym (settle-found bare (k - 1) y (view u) c q) ∙ ap (λ (j : ℕ). settleBy bare j y (view u)) (sym left) ∙ w .rest;
               steps = rw ex (omega arith);
               ones = rw ex (plus-most (isOne reply) (y .ones) (y .steps) i);
               others = rw ex (plus-most (isOther reply) (y .others) (y .steps) j);

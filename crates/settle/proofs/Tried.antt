@@ -9,7 +9,7 @@ use lib.Seq.{getD-take}
 use Rattle.lists.specs.Lists.{each}
 use Rattle.lists.proofs.Tests.{byTest, no-true}
 use Rattle.protocol.specs.Advance.{advance}
-use Rattle.protocol.specs.Answers.{Outcome, accepted}
+use Rattle.protocol.specs.Answers.{accepted}
 use Rattle.protocol.specs.Bounds.{maxPartitions, maxRecords}
 use Rattle.protocol.specs.Deliver.{deliver}
 use Rattle.protocol.specs.Elements.{isAccepted}
@@ -18,7 +18,7 @@ use Rattle.protocol.specs.Settle.{Found, advances, candidates, deliveries, firs
 use Rattle.protocol.specs.Tables.{partition, partitionCount, Partition as Part}
 use Rattle.protocol.specs.declared.Record.{Record}
 use Rattle.tables.specs.Slots.{noRecord}
-use Rattle.tables.specs.View.{Sized, pack, partitionAt, recordsOf, view}
+use Rattle.tables.specs.View.{Sized, partitionAt, recordsOf, view}
 use Rattle.tables.specs.declared.Partition.{Partition}
 use Rattle.tables.specs.declared.Records.{Records}
 use Rattle.tables.specs.declared.Tables.{Tables}
@@ -68,11 +68,11 @@ step-found t nothing y s h f k = no-true f (ap (λ (u : Step). u .moved) h)
 step-found t (found e) y s h f k = h ∙ ap (stepOf t) (sym (k e refl))
 
 module _ (t : Tables) (g : ℕ → List Event) where
-  trying-start : Trying t g 0
+  pub trying-start : Trying t g 0
   trying-start = record { none = each-none bare (view t) g }
 
   module _ (i : ℕ) (w : Trying t g i) where
-    trying-next : (s : Step) → s ≡ stepOf t (firstAccepted bare (view t) (g i)) → s .moved ≡ false → Trying t g (i + 1)
+    pub trying-next : (s : Step) → s ≡ stepOf t (firstAccepted bare (view t) (g i)) → s .moved ≡ false → Trying t g (i + 1)
     trying-next s h f = record { none = each-missed bare (view t) g i (w .none) (step-none t _ s h f) }
 
     trying-here : (n : ℕ) (s : Step) → i < n → s ≡ stepOf t (firstAccepted bare (view t) (g i)) → s .moved ≡ true
@@ -101,9 +101,6 @@ module _ (t : Tables) (p : ℕ) (l : Records) (o : LogOf t p l) where
 
   pub log-below : (i : ℕ) → i < l .count → i < maxRecords
   log-below i k = let n = o .few in omega arith
-
-  pub log-start : Trying t (logged p l) 0
-  log-start = trying-start t (logged p l)
 
   module _ (i : ℕ) (w : Trying t (logged p l) i) where
     module _ (k : i < l .count) (c : Record) (v : c ≡ getD (l .items) i noRecord) (s : Step) (h : s ≡ stepOf t (firstAccepted bare (view t) (Advancing p (c .number) ∷ []))) where
@@ -179,24 +176,6 @@ module _ (t : Tables) (z : Sized t) (r : Ready t) where
   unfolding deliveries deliveriesFrom
   senders-done i w s a b h = all-done (deliveriesFrom (view t)) i w s a b h
 
-pub logs-start : (t : Tables) → Trying t (advancesOf (view t)) 0
-logs-start t = trying-start t (advancesOf (view t))
-
-pub logs-next : (t : Tables) (i : ℕ) → Trying t (advancesOf (view t)) i → (s : Step) → s ≡ stepOf t (firstAccepted bare (view t) (advancesOf (view t) i)) → s .moved ≡ false → Trying t (advancesOf (view t)) (i + 1)
-logs-next t i w s h f = trying-next t (advancesOf (view t)) i w s h f
-
-pub receivers-start : (t : Tables) (p : ℕ) → Trying t (receivers p) 0
-receivers-start t p = trying-start t (receivers p)
-
-pub receivers-next : (t : Tables) (p i : ℕ) → Trying t (receivers p) i → (s : Step) → s ≡ stepOf t (firstAccepted bare (view t) (Delivering p i ∷ [])) → s .moved ≡ false → Trying t (receivers p) (i + 1)
-receivers-next t p i w s h f = trying-next t (receivers p) i w s h f
-
-pub senders-start : (t : Tables) → Trying t (deliveriesFrom (view t)) 0
-senders-start t = trying-start t (deliveriesFrom (view t))
-
-pub senders-next : (t : Tables) (i : ℕ) → Trying t (deliveriesFrom (view t)) i → (s : Step) → s ≡ stepOf t (firstAccepted bare (view t) (deliveriesFrom (view t) i)) → s .moved ≡ false → Trying t (deliveriesFrom (view t)) (i + 1)
-senders-next t i w s h f = trying-next t (deliveriesFrom (view t)) i w s h f
-
 -- ---- advances, then deliveries
 
 module _ (t : Tables) (a : Step) (h : a ≡ stepOf t (firstAccepted bare (view t) (advances (view t)))) where
@@ -209,8 +188,8 @@ module _ (t : Tables) (a : Step) (h : a ≡ stepOf t (firstAccepted bare (view t
 
 pub ruleset tries = (advance-tried, delivery-tried, tried-accepted, tried-refused)
 
-pub ruleset log-tries = (log-there, log-four, log-start, log-below, log-next, log-here, log-done)
+pub ruleset log-tries = (log-there, log-four, trying-start, log-below, log-next, log-here, log-done)
 
-pub ruleset all-tries = (turn-four, logs-start, logs-next, logs-here, logs-done, receivers-start, receivers-next, receivers-here, receivers-done, senders-start, senders-next, senders-here, senders-done)
+pub ruleset all-tries = (turn-four, trying-start, trying-next, logs-here, logs-done, receivers-here, receivers-done, senders-here, senders-done)
 
 pub ruleset step-tries = (step-advances, step-delivers)

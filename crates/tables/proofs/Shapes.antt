@@ -9,14 +9,14 @@ use borrow.Author.Tests.{eqb-true, leb-true}
 use Rattle.lists.specs.Lists.{all, every, pad, tidy}
 use Rattle.names.specs.Names.{zeroName}
 use Rattle.protocol.specs.Bounds.{maxBackpointers, maxEntries, maxMessages, maxPartitions, maxRecords, queueCount}
-use Rattle.protocol.specs.Order.{O1, partitionInRange}
+use Rattle.protocol.specs.Order.{O1, inOrder, partitionInRange}
 use Rattle.tables.specs.Slots.{freeBackpointer, freeEntry, freeMessage, freeRecord, zeroBackpointer, zeroEntry, zeroMessage, zeroRecord}
 use Rattle.tables.specs.View.{absent, pack, packPartition, packQueue, shaped, shapedPartition, shapedQueue, zeroPartition}
 use Rattle.lists.proofs.Alls.{all-map, all-pad}
 use Rattle.lists.proofs.Tests.{_also_, below-at, both-true, done, every-at, every-of}
 use Rattle.lists.proofs.Tidies.{pad-tidy}
 use Rattle.names.proofs.Laws.{name-same}
-use Rattle.protocol.specs.Tables.{Partition as Part, Model, partition, queue, partitionCount, noPartition as noPart}
+use Rattle.protocol.specs.Tables.{Partition as Part, Model, partition, queue, noPartition as noPart}
 
 zero-entry-free : freeEntry zeroEntry ≡ true
 unfolding freeEntry zeroEntry
@@ -79,3 +79,7 @@ pack-shaped m h =
     pad-tidy maxMessages freeMessage zeroMessage zero-message-free (getD (m .queues) i []) (rw v at w))
     in
     every-of _ (t also all-pad shapedPartition maxPartitions zeroPartition l p zero-shaped also u also done)
+
+pub order-shaped : (m : Model) → inOrder m ≡ true → shaped (pack m) ≡ true
+unfolding inOrder
+order-shaped m o = pack-shaped m (every-at _ o 0)

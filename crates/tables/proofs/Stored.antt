@@ -1,10 +1,9 @@
 -- What tables in their stored form hold at each place, and what they are after a store.
 use mathlib.Core.Bool.{Bool}
-use mathlib.Core.List.{List, [], _∷_, map}
+use mathlib.Core.List.{List, map}
 use mathlib.Core.Path.{_∙_, _≡_, ap, ap₂, refl, sym}
-use Prim.Native.Nat.{_*_, _+_, _<_, suc, zero, ℕ}
-use native.Mathlib.Omega.{arith}
-use lib.ListN.{List·getD-map, getD, length, length-map, length-set, set}
+use Prim.Native.Nat.{_*_, _+_, _<_, ℕ}
+use lib.ListN.{getD, length, length-map, length-set, set}
 use lib.Seq.{getD-take}
 use Rattle.lists.specs.Lists.{pad}
 use Rattle.protocol.specs.Bounds.{maxBackpointers, maxEntries, maxPartitions, maxRecords}
@@ -18,13 +17,8 @@ use Rattle.tables.specs.declared.Queue.{Queue}
 use Rattle.tables.specs.declared.Records.{Records}
 use Rattle.tables.specs.declared.Tables.{Tables}
 use Rattle.lists.proofs.Fills.{take-pad}
+use Rattle.lists.proofs.Images.{map-at}
 use Rattle.lists.proofs.Stores.{map-set, pad-set}
-
--- a read within a list does not see what stands past its end
-getD-any : {A : Type 0} (l : List A) (i : ℕ) (d e : A) → i < length l → getD l i d ≡ getD l i e
-getD-any [] i d e h = absurd (omega arith)
-getD-any (x ∷ l) zero d e h = refl
-getD-any (x ∷ l) (suc i) d e h = getD-any l i d e (omega arith)
 
 getD-pad : {A : Type 0} (N : ℕ) (z d : A) (l : List A) (i : ℕ) → i < length l → getD (pad N z l) i d ≡ getD l i d
 getD-pad N z d l i h = sym (getD-take (length l) (pad N z l) i d h) ∙ ap (λ (k : List _). getD k i d) (take-pad N z l)
@@ -48,11 +42,10 @@ module _ (t : Tables) (p : ℕ) (s : Stored t p) where
       let h : p < length l = rw (length-map (m .partitions) packPartition) within in
       ap (λ (u : Tables). getD (u .partitions) p noPartition) (sym (s .packed))
       ∙ getD-pad maxPartitions zeroPartition noPartition l p h
-      ∙ getD-any l p noPartition (packPartition noPart) h
-      ∙ List·getD-map packPartition (m .partitions) p noPart
+      ∙ map-at packPartition (m .partitions) p noPartition noPart within
 
   -- after a store of a partition in its stored form
-  set-stored : (x : Partition) (y : Part) → packPartition y ≡ x
+  pub set-stored : (x : Partition) (y : Part) → packPartition y ≡ x
       → record { count = t .count; partitions = set (t .partitions) p x; queues = t .queues } ≡ pack (setPartition m p y)
   unfolding pack setPartition
   set-stored x y e =

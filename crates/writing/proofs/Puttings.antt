@@ -1,6 +1,6 @@
 -- The loop that puts the records of a kind, one behind another, over any row: a law for its start, its turn and its end.
-use mathlib.Core.List.{List, [], _++_, _∷_, append-assoc, append-nil}
-use mathlib.Core.Path.{_∙_, _≡_, ap, refl, sym}
+use mathlib.Core.List.{List, _++_}
+use mathlib.Core.Path.{_∙_, _≡_, ap, refl}
 use Prim.Native.Nat.{_*_, _+_, _<_, _≤_, ℕ}
 use native.Mathlib.Nat.{mul-le-mul-left, mul-suc}
 use native.Mathlib.Numerals.{add-one}
@@ -12,16 +12,10 @@ use Rattle.picture.specs.Answers.{Put, PutAll}
 use Rattle.picture.specs.Picture.{put}
 use Rattle.picture.specs.Rows.{Row, next, putRow, putRows}
 use Rattle.codec.proofs.Puts.{laid, over-none}
-
-rows-append : {A : Type 0} (w : Row A) (xs ys : List A) → putRows w (xs ++ ys) ≡ putRows w xs ++ putRows w ys
-unfolding putRows
-rows-append w [] ys = refl
-rows-append w (x ∷ xs) ys = ap (λ (l : List ℕ). putRow w x ++ l) (rows-append w xs ys) ∙ sym (append-assoc (putRow w x) (putRows w xs) (putRows w ys))
+use Rattle.picture.proofs.Rounds.{rows-more}
 
 rows-next : {A : Type 0} (w : Row A) (xs : List A) (i : ℕ) (d : A) → i < length xs → putRows w (take (i + 1) xs) ≡ putRows w (take i xs) ++ putRow w (getD xs i d)
-unfolding putRows
-rows-next w xs i d h =
-    rw (add-one i, take-suc xs i d h) (rows-append w (take i xs) (getD xs i d ∷ []) ∙ ap (λ (l : List ℕ). putRows w (take i xs) ++ l) (append-nil (putRow w (getD xs i d))))
+rows-next w xs i d h = rw (add-one i, take-suc xs i d h) (rows-more w (take i xs) (getD xs i d))
 
 module _ {A : Type 0} (w : Row A) (size : ℕ) (l : List ℕ) (from : ℕ) (xs : List A) where
   -- the first i of them are put, and the room is as long as it was

@@ -6,7 +6,7 @@ use Prim.Native.Nat.{_<_, _≤_, ℕ}
 use native.Mathlib.Omega.{arith}
 use lib.Dec.{ltb}
 use lib.ListN.{length, length-map}
-use borrow.Author.Tests.{le-leb, lt-leb, lt-ltb}
+use borrow.Author.Tests.{le-leb, lt-leb}
 use Rattle.lists.specs.Lists.{pick}
 use Rattle.protocol.specs.Order.{inOrder}
 use Rattle.protocol.specs.Tables.{inStage, isPartition}
@@ -15,7 +15,7 @@ use Rattle.protocol.specs.declared.Entry.{Entry}
 use Rattle.protocol.specs.declared.Record.{Record}
 use Rattle.protocol.specs.declared.Refusal.the-variants.{Accepted, OutOfOrder, OutOfRange, RoomTooShort}
 use Rattle.protocol.specs.declared.Stage.the-variants.{Ready as ReadyStage}
-use Rattle.tables.specs.View.{Ranged, Sized, SizedPartition, partitionAt, shaped, view}
+use Rattle.tables.specs.View.{Sized, partitionAt, shaped, view}
 use Rattle.tables.specs.declared.Partition.{Partition}
 use Rattle.tables.specs.declared.Tables.{Tables}
 use Rattle.events.specs.Called.{Ready}
@@ -28,10 +28,8 @@ use Rattle.picture.specs.Store.{store, unwritten, writtenInto}
 use Rattle.picture.specs.declared.Head.{Head}
 use Rattle.writing.specs.Written.{Reported, after, refusedFor, writtenFrom}
 use Rattle.lists.proofs.Tests.{byTest}
-use Rattle.tables.proofs.Packs.{shaped-all}
-use Rattle.tables.proofs.Views.{ranged}
 use Rattle.events.proofs.Advances.{now-four, now-there}
-use Rattle.events.proofs.Ways.{now-ready, read-four, read-view, ready-view}
+use Rattle.events.proofs.Ways.{now-ready, read-ranged, read-sized, read-view, ready-test, ready-there, ready-view}
 use Rattle.picture.proofs.Lengths.{picture-length, sized}
 use Rattle.writing.proofs.Pictures.{backpointer-count, entry-count, record-count}
 
@@ -50,15 +48,6 @@ put-ready h es bs rs = rw (rows-ready rs, length-map rs (inStage ReadyStage)) re
 -- ---- the partition x, which was read at p
 
 module _ (t : Tables) (p : ℕ) (z : Sized t) (r : Ready t) (h : p < t .count) (x : Partition) (e : x ≡ partitionAt t p) where
-  pub read-ranged : Ranged x
-  read-ranged = rw e (ranged (partitionAt t p) (shaped-all t z (r .shaped) .partition p (read-four t p z r h)))
-
-  pub read-sized : SizedPartition x
-  read-sized = rw e (z .partition p (read-four t p z r h))
-
-  there : isPartition (view t) p ≡ true
-  there = rw (ready-view t z r) (lt-ltb p (t .count) h)
-
   abbrev written : List ℕ
   written = write first (pictureOf (view t) p)
 
@@ -71,8 +60,10 @@ module _ (t : Tables) (p : ℕ) (z : Sized t) (r : Ready t) (h : p < t .count) (
 
   size-is : length written ≡ sized (x .entries .count) (x .backpointers .count) (x .records .count)
   size-is =
-      picture-length (view t) p (r .order) there
-      ∙ rw (read-view t p z r h x e, entry-count x read-sized read-ranged, backpointer-count x read-sized read-ranged, record-count x read-sized read-ranged) refl
+      let s = read-sized t p z r h x e in
+      let k = read-ranged t p z r h x e in
+      picture-length (view t) p (r .order) (ready-there t p z r h)
+      ∙ rw (read-view t p z r h x e, entry-count x s k, backpointer-count x s k, record-count x s k) refl
 
   module _ (l : List ℕ) (n : ℕ) (s : n ≡ sized (x .entries .count) (x .backpointers .count) (x .records .count)) where
     pub write-short : (a : Reported) → length l < n → a ≡ refusedFor RoomTooShort → after a l ≡ writtenInto written l
@@ -103,7 +94,7 @@ module _ (t : Tables) (p : ℕ) (l : List ℕ) (a : Reported) (b : Bool) (e : b 
 
   module _ (z : Sized t) (f : b ≡ true) (c : Bool) (g : c ≡ ltb p (t .count)) where
     placed : isPartition (view t) p ≡ c
-    placed = rw (ready-view t z (now-ready t b e f)) (sym g)
+    placed = ready-test t p z (now-ready t b e f) c g
 
     pub write-unplaced : c ≡ false → a ≡ refusedFor OutOfRange → after a l ≡ writtenFrom t p l
     unfolding after

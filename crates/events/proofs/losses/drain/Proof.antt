@@ -2,7 +2,7 @@ use mathlib.Core.Logic.{⊎-elim}
 use Prim.Native.Nat.{_-_, _≤_}
 use Rattle.protocol.specs.Bounds.{queueCount}
 use Rattle.tables.proofs.Known.{sized}
-use Rattle.events.proofs.Mapped.{Mapping}
+use Rattle.lists.proofs.Mapped.{Mapping}
 use Rattle.events.proofs.Loses.{emptying, queue-empties, queue-stays, queues-lost}
 use borrow.Author.Needs.{needs}
 use Rattle.events.proofs.losses.drain.Statement.{statement}

@@ -1,4 +1,4 @@
-use Rattle.events.proofs.Loses.{picks}
+use Rattle.lists.proofs.Picks.{picks}
 use borrow.Author.Needs.{needs}
 use Rattle.events.proofs.losses.record_after.Statement.{statement}
 use Rattle.events.proofs.losses.record_after.Tie as tie

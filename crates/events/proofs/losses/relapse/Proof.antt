@@ -1,7 +1,7 @@
 use Prim.Native.Nat.{_-_, _≤_}
 use Rattle.tables.proofs.Known.{sized}
 use Rattle.events.proofs.Loses.{partitions-lost, relapsing}
-use Rattle.events.proofs.Mapped.{Mapping}
+use Rattle.lists.proofs.Mapped.{Mapping}
 use Rattle.events.proofs.Ways.{read-records}
 use borrow.Author.Needs.{needs}
 use Rattle.events.proofs.losses.relapse.Statement.{statement}

@@ -1,6 +1,6 @@
 use Prim.Native.Nat.{_-_, _≤_}
 use Rattle.tables.proofs.Known.{records-length}
-use Rattle.events.proofs.Mapped.{Mapping}
+use Rattle.lists.proofs.Mapped.{Mapping}
 use Rattle.events.proofs.Loses.{leaves, records-lost}
 use borrow.Author.Needs.{needs}
 use Rattle.events.proofs.losses.relapse_records.Statement.{statement}

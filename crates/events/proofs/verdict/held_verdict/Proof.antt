@@ -1,4 +1,4 @@
-use Rattle.events.proofs.Verdicts.{picks}
+use Rattle.lists.proofs.Picks.{picks}
 use borrow.Author.Needs.{needs}
 use Rattle.events.proofs.verdict.held_verdict.Statement.{statement}
 use Rattle.events.proofs.verdict.held_verdict.Tie as tie
