@@ -1,8 +1,8 @@
 -- The steps of an advance on stored tables, in plain variables.
 use mathlib.Core.Bool.{Bool, false, true}
-use mathlib.Core.List.{List, List·Memᴰ, List·Memᴰ·eq-of-singleton, List·Memᴰ·head, List·Memᴰ·not-nil, List·Memᴰ·tail, [], _++_, _∷_}
+use mathlib.Core.List.{List, List·Memᴰ, [], _++_, _∷_}
 use mathlib.Core.Path.{_∙_, _≡_, ap, refl, subst, sym}
-use Prim.Native.Nat.{_<_, _≤_, suc, zero, ℕ}
+use Prim.Native.Nat.{_<_, _≤_, ℕ}
 use native.Mathlib.Omega.{arith}
 use lib.ListN.{getD, length, set}
 use lib.Seq.{getD-take, length-take-le}
@@ -16,7 +16,8 @@ use Rattle.tables.specs.View.{Sized, Stored, entriesOf, pack, packEntries, pack
 use Rattle.events.specs.Called.{Answered, Ready, acceptedWith, refusedWith, stored}
 use Rattle.events.specs.Layers.{OpenAt, SendsTo}
 use Rattle.lists.proofs.Finds.{found-removed, none-kept}
-use Rattle.lists.proofs.Members.{mem-keep}
+use Rattle.lists.proofs.Keep.{isSome-false}
+use Rattle.lists.proofs.Members.{mem-keep, only-one, place-mem}
 use Rattle.lists.proofs.Places.{mapIf-at, without-at}
 use Rattle.lists.proofs.Tests.{byTest, eqb-same, no-true}
 use Rattle.protocol.proofs.Numbers.{queue-part}
@@ -46,16 +47,6 @@ use Rattle.tables.specs.declared.Entries.{Entries}
 use Rattle.tables.specs.declared.Partition.{Partition}
 use Rattle.tables.specs.declared.Records.{Records}
 use Rattle.tables.specs.declared.Tables.{Tables}
-
-place-mem : {A : Type 0} (l : List A) (i : ℕ) (d : A) → i < length l → List·Memᴰ (getD l i d) l
-place-mem [] i d h = absurd (omega arith)
-place-mem (x ∷ l) zero d h = List·Memᴰ·head refl
-place-mem (x ∷ l) (suc i) d h = List·Memᴰ·tail (place-mem l i d (omega arith))
-
-only-one : {A : Type 0} (k : List A) (x : A) → List·Memᴰ x k → length k ≤ 1 → k ≡ x ∷ []
-only-one [] x i h = absurd (List·Memᴰ·not-nil i)
-only-one (y ∷ []) x i h = ap (λ (z : _). z ∷ []) (sym (List·Memᴰ·eq-of-singleton i))
-only-one (y ∷ z ∷ k) x i h = absurd (omega arith)
 
 -- which records enter a name, and which take one out
 add-entering : (g : Stage) (e t : Bool) → Enters ≡ nextToAdd g e t → e ≡ false
@@ -104,10 +95,6 @@ taking : (k : Kind) (g : Stage) (e t : Bool) → TakesOut ≡ nextOf k g e t →
 taking Link g e t h = add-taking g e t h
 taking Create g e t h = add-taking g e t h
 taking Unlink g e t h = remove-taking g e h
-
-none-of : {A : Type 0} (l : List A) → isSome l ≡ false → l ≡ []
-none-of [] h = refl
-none-of (x ∷ l) h = no-true refl h
 
 sending-add : (g : Stage) (e t : Bool) → Sends ≡ nextToAdd g e t → isSent g ≡ false
 sending-add ReadyStage e t h = refl
@@ -211,7 +198,7 @@ module _ (t : Tables) (z : Sized t) (r : Ready t) (p i : ℕ) (c : Record) (o : 
   unfolding next
   enter-room h =
       let y = entering (c .kind) (c .stage) _ _ h in
-      let n : length (partition m p .entries) < maxEntries = entry-room m (r .order) p (c .number) c [] found (y .0) (none-of _ (y .1)) in
+      let n : length (partition m p .entries) < maxEntries = entry-room m (r .order) p (c .number) c [] found (y .0) (isSome-false _ (y .1)) in
       let s = read-sized t p z r (o .partition) x e .entries in
       let k : length (partition m p .entries) ≡ x .entries .count = rw seen (length-take-le (x .entries .count) (x .entries .items) (omega (arith, step-entries-most))) in
       omega arith

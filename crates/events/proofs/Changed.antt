@@ -23,19 +23,6 @@ use Rattle.tables.specs.declared.Queue.{Queue}
 use Rattle.tables.specs.declared.Records.{Records}
 use Rattle.tables.specs.declared.Tables.{Tables}
 
--- what is in its stored form
-pub packed-entries : (l : Entries) (k : List Entry) → l ≡ packEntries k → packEntries (entriesOf l) ≡ l
-packed-entries l k e = rw e (ap packEntries (take-pad maxEntries zeroEntry k))
-
-pub packed-backpointers : (l : Backpointers) (k : List Backpointer) → l ≡ packBackpointers k → packBackpointers (backpointersOf l) ≡ l
-packed-backpointers l k e = rw e (ap packBackpointers (take-pad maxBackpointers zeroBackpointer k))
-
-pub packed-records : (l : Records) (k : List Record) → l ≡ packRecords k → packRecords (recordsOf l) ≡ l
-packed-records l k e = rw e (ap packRecords (take-pad maxRecords zeroRecord k))
-
-pub packed-messages : (l : Queue) (k : List Message) → l ≡ packQueue k → packQueue (messagesOf l) ≡ l
-packed-messages l k e = rw e (ap packQueue (take-pad maxMessages zeroMessage k))
-
 -- after a store in partition p of t
 pub stored-again : (t u : Tables) (p q : ℕ) (x : Part) → Stored t q → u ≡ pack (setPartition (view t) p x) → Stored u q
 unfolding pack setPartition

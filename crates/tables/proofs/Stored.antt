@@ -6,9 +6,13 @@ use Prim.Native.Nat.{_*_, _+_, _<_, ℕ}
 use lib.ListN.{getD, length, length-map, length-set, set}
 use lib.Seq.{getD-take}
 use Rattle.lists.specs.Lists.{pad}
-use Rattle.protocol.specs.Bounds.{maxBackpointers, maxEntries, maxPartitions, maxRecords}
+use Rattle.protocol.specs.Bounds.{maxBackpointers, maxEntries, maxMessages, maxPartitions, maxRecords}
 use Rattle.protocol.specs.Tables.{Model, partition, setPartition, setQueue, setUp, withBackpointers, withEntries, withLast, withRecords, noPartition as noPart, Partition as Part}
-use Rattle.tables.specs.Slots.{zeroBackpointer, zeroEntry, zeroRecord}
+use Rattle.protocol.specs.declared.Backpointer.{Backpointer}
+use Rattle.protocol.specs.declared.Entry.{Entry}
+use Rattle.protocol.specs.declared.Message.{Message}
+use Rattle.protocol.specs.declared.Record.{Record}
+use Rattle.tables.specs.Slots.{zeroBackpointer, zeroEntry, zeroMessage, zeroRecord}
 use Rattle.tables.specs.View.{Stored, backpointersOf, entriesOf, messagesOf, noPartition, pack, packBackpointers, packEntries, packPartition, packQueue, packRecords, partitionAt, recordsOf, view, zeroPartition}
 use Rattle.tables.specs.declared.Backpointers.{Backpointers}
 use Rattle.tables.specs.declared.Entries.{Entries}
@@ -22,6 +26,19 @@ use Rattle.lists.proofs.Stores.{map-set, pad-set}
 
 getD-pad : {A : Type 0} (N : ℕ) (z d : A) (l : List A) (i : ℕ) → i < length l → getD (pad N z l) i d ≡ getD l i d
 getD-pad N z d l i h = sym (getD-take (length l) (pad N z l) i d h) ∙ ap (λ (k : List _). getD k i d) (take-pad N z l)
+
+-- what is in its stored form
+pub packed-entries : (l : Entries) (k : List Entry) → l ≡ packEntries k → packEntries (entriesOf l) ≡ l
+packed-entries l k e = rw e (ap packEntries (take-pad maxEntries zeroEntry k))
+
+pub packed-backpointers : (l : Backpointers) (k : List Backpointer) → l ≡ packBackpointers k → packBackpointers (backpointersOf l) ≡ l
+packed-backpointers l k e = rw e (ap packBackpointers (take-pad maxBackpointers zeroBackpointer k))
+
+pub packed-records : (l : Records) (k : List Record) → l ≡ packRecords k → packRecords (recordsOf l) ≡ l
+packed-records l k e = rw e (ap packRecords (take-pad maxRecords zeroRecord k))
+
+pub packed-messages : (l : Queue) (k : List Message) → l ≡ packQueue k → packQueue (messagesOf l) ≡ l
+packed-messages l k e = rw e (ap packQueue (take-pad maxMessages zeroMessage k))
 
 module _ (t : Tables) (p : ℕ) (s : Stored t p) where
   abbrev m : Model
@@ -89,13 +106,13 @@ module _ (t : Tables) (p : ℕ) (s : Stored t p) where
 
     -- what was read is in its stored form
     pub entries-stored : packEntries (entriesOf (x .entries)) ≡ x .entries
-    entries-stored = rw (ap (λ (y : Partition). y .entries) read) (ap packEntries (take-pad maxEntries zeroEntry (partition m p .entries)))
+    entries-stored = packed-entries (x .entries) (partition m p .entries) (ap (λ (y : Partition). y .entries) read)
 
     pub backpointers-stored : packBackpointers (backpointersOf (x .backpointers)) ≡ x .backpointers
-    backpointers-stored = rw (ap (λ (y : Partition). y .backpointers) read) (ap packBackpointers (take-pad maxBackpointers zeroBackpointer (partition m p .backpointers)))
+    backpointers-stored = packed-backpointers (x .backpointers) (partition m p .backpointers) (ap (λ (y : Partition). y .backpointers) read)
 
     pub records-stored : packRecords (recordsOf (x .records)) ≡ x .records
-    records-stored = rw (ap (λ (y : Partition). y .records) read) (ap packRecords (take-pad maxRecords zeroRecord (partition m p .records)))
+    records-stored = packed-records (x .records) (partition m p .records) (ap (λ (y : Partition). y .records) read)
 
 -- a queue
 pub stored-queue : (t : Tables) (s r : ℕ) → Stored t s → Stored t r → (q : Queue) → packQueue (messagesOf q) ≡ q

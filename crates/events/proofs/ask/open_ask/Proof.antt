@@ -1,6 +1,7 @@
 use Rattle.events.proofs.Asks.{opening}
 use Rattle.events.proofs.Ways.{ready-stored}
-use Rattle.events.proofs.Changed.{packed-records, stored-again}
+use Rattle.events.proofs.Changed.{stored-again}
+use Rattle.tables.proofs.Stored.{packed-records}
 use Rattle.tables.proofs.Known.{sized}
 use borrow.Author.Needs.{needs}
 use Rattle.events.proofs.ask.open_ask.Statement.{statement}

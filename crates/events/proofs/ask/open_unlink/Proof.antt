@@ -2,7 +2,7 @@ use Rattle.events.proofs.Unlinks.{unlinktables}
 use Rattle.tables.proofs.Known.{sized}
 use Rattle.events.proofs.Asks.{open-records}
 use Rattle.events.proofs.Ways.{ready-stored}
-use Rattle.events.proofs.Changed.{packed-records}
+use Rattle.tables.proofs.Stored.{packed-records}
 use borrow.Author.Needs.{needs}
 use Rattle.events.proofs.ask.open_unlink.Statement.{statement}
 use Rattle.events.proofs.ask.open_unlink.Tie as tie

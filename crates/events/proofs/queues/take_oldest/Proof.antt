@@ -1,4 +1,5 @@
-use Rattle.events.proofs.Changed.{queues, packed-messages}
+use Rattle.events.proofs.Changed.{queues}
+use Rattle.tables.proofs.Stored.{packed-messages}
 use Rattle.tables.proofs.Known.{sized}
 use borrow.Author.Needs.{needs}
 use Rattle.events.proofs.queues.take_oldest.Statement.{statement}

@@ -1,5 +1,5 @@
 use Rattle.events.proofs.Receives.{landings}
-use Rattle.events.proofs.Changed.{packed-records}
+use Rattle.tables.proofs.Stored.{packed-records}
 use Rattle.tables.proofs.Known.{sized}
 use borrow.Author.Needs.{needs}
 use Rattle.events.proofs.receive.land.Statement.{statement}

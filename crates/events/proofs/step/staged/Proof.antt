@@ -1,6 +1,6 @@
 use Rattle.events.proofs.Advancing.{steps}
 use Rattle.events.proofs.Ways.{ready-stored}
-use Rattle.events.proofs.Changed.{packed-records}
+use Rattle.tables.proofs.Stored.{packed-records}
 use Rattle.tables.proofs.Known.{sized}
 use borrow.Author.Needs.{needs}
 use Rattle.events.proofs.step.staged.Statement.{statement}
