@@ -4,14 +4,13 @@ use mathlib.Core.List.{[], _∷_}
 use mathlib.Core.Path.{_∙_, _≡_, ap, refl, sym}
 use Prim.Native.Nat.{_<_, ℕ}
 use native.Mathlib.Omega.{arith}
-use borrow.Author.Tests.{ltb-true}
 use lib.Dec.{ltb}
 use lib.ListN.{getD}
 use Rattle.lists.specs.Lists.{firstAt, isSome, keep}
 use Rattle.lists.specs.declared.Found.{Found}
 use Rattle.lists.specs.declared.Found.the-variants.{At, Nothing}
 use Rattle.protocol.specs.Advance.{advance, advanceFound, next, nextOf, perform}
-use Rattle.protocol.specs.Bounds.{maxPartitions, maxRecords}
+use Rattle.protocol.specs.Bounds.{maxRecords}
 use Rattle.protocol.specs.Tables.{entryBears, partition, recordBears, standsUnder, Partition as Part}
 use Rattle.protocol.specs.declared.Next.{Next}
 use Rattle.protocol.specs.declared.Record.{Record}
@@ -23,7 +22,7 @@ use Rattle.tables.specs.declared.Tables.{Tables}
 use Rattle.events.specs.Called.{Answered, Ready, refusedWith, stored}
 use Rattle.events.specs.Layers.{OpenAt}
 use Rattle.lists.proofs.Finds.{found-below, found-kept, none-kept}
-use Rattle.events.proofs.Ways.{passes, read-four, read-records, read-up, read-view, ready-test, ready-there, refuses}
+use Rattle.events.proofs.Ways.{now-four, now-there, passes, read-four, read-records, read-up, read-view, ready-test, ready-there, refuses}
 
 module _ (t : Tables) (z : Sized t) (r : Ready t) (p : ℕ) (h : p < t .count) (x : Partition) (e : x ≡ partitionAt t p) where
   seen : partition (view t) p ≡ viewPartition x
@@ -86,12 +85,6 @@ module _ (t : Tables) (z : Sized t) (r : Ready t) (p : ℕ) (h : p < t .count) (
 
 -- the partition is there, or not
 module _ (t : Tables) (z : Sized t) (r : Ready t) (p : ℕ) (b : Bool) (e : b ≡ ltb p (t .count)) where
-  pub now-there : b ≡ true → p < t .count
-  now-there f = ltb-true _ _ (sym e ∙ f)
-
-  pub now-four : b ≡ true → p < maxPartitions
-  now-four f = read-four t p z r (now-there f)
-
   pub advance-outside : (n : ℕ) (a : Answered) → b ≡ false → a ≡ refusedWith t OutOfRange → a ≡ stored t (advance (view t) p n)
   unfolding advance
   advance-outside n a f k = k ∙ refuses t _ OutOfRange _ _ refl (ready-test t p z r b e ∙ f)

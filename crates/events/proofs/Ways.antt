@@ -6,7 +6,7 @@ use native.Mathlib.Omega.{arith}
 use lib.Dec.{ltb}
 use lib.ListN.{length}
 use lib.Seq.{length-take-le}
-use borrow.Author.Tests.{lt-ltb}
+use borrow.Author.Tests.{lt-ltb, ltb-true}
 use Rattle.protocol.specs.Answers.{Outcome, accept, check}
 use Rattle.protocol.specs.Bounds.{maxBackpointers, maxEntries, maxPartitions, maxRecords}
 use Rattle.protocol.specs.Elements.{isAccepted}
@@ -43,6 +43,14 @@ ready-test t p z r b e = rw (ready-view t z r) (sym e)
 
 pub ready-there : (t : Tables) (p : ℕ) → Sized t → Ready t → p < t .count → isPartition (view t) p ≡ true
 ready-there t p z r h = ready-test t p z r true (sym (lt-ltb _ _ h))
+
+-- the partition is there, by the test that was made
+module _ (t : Tables) (z : Sized t) (r : Ready t) (p : ℕ) (b : Bool) (e : b ≡ ltb p (t .count)) where
+  pub now-there : b ≡ true → p < t .count
+  now-there f = ltb-true _ _ (sym e ∙ f)
+
+  pub now-four : b ≡ true → p < maxPartitions
+  now-four f = read-four t p z r (now-there f)
 
 -- of the partition x that was read at p
 module _ (t : Tables) (p : ℕ) (z : Sized t) (r : Ready t) (h : p < t .count) (x : Partition) (e : x ≡ partitionAt t p) where

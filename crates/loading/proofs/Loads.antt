@@ -25,7 +25,7 @@ use Rattle.picture.specs.declared.PictureRead.{PictureRead}
 use Rattle.loading.specs.Loaded.{loaded, replaced, shownBy}
 use Rattle.lists.proofs.Tests.{byTest}
 use Rattle.tables.proofs.Packs.{partition-unpack}
-use Rattle.events.proofs.Advances.{now-four, now-there}
+use Rattle.events.proofs.Ways.{now-four, now-there}
 use Rattle.events.proofs.Ways.{now-ready, passes, read-up, ready-test, ready-view, refuses, test-fails, test-passes}
 
 -- ---- a picture that was read, with the header i and the tables y

@@ -28,7 +28,7 @@ use Rattle.picture.specs.Store.{store, unwritten, writtenInto}
 use Rattle.picture.specs.declared.Head.{Head}
 use Rattle.writing.specs.Written.{Reported, after, refusedFor, writtenFrom}
 use Rattle.lists.proofs.Tests.{byTest}
-use Rattle.events.proofs.Advances.{now-four, now-there}
+use Rattle.events.proofs.Ways.{now-four, now-there}
 use Rattle.events.proofs.Ways.{now-ready, read-ranged, read-sized, read-view, ready-test, ready-there, ready-view}
 use Rattle.picture.proofs.Lengths.{picture-length, sized}
 use Rattle.writing.proofs.Pictures.{backpointer-count, entry-count, record-count}

@@ -1,5 +1,5 @@
 use Rattle.tables.proofs.Known.{sized}
-use Rattle.events.proofs.Advances.{now-four, now-there}
+use Rattle.events.proofs.Ways.{now-four, now-there}
 use Rattle.events.proofs.Faulty.{crashes}
 use borrow.Author.Needs.{needs}
 use Rattle.events.proofs.faults.crash_in_order.Statement.{statement}

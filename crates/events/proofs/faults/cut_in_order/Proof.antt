@@ -1,5 +1,5 @@
 use Rattle.tables.proofs.Known.{sized}
-use Rattle.events.proofs.Advances.{now-four, now-there}
+use Rattle.events.proofs.Ways.{now-four, now-there}
 use Rattle.events.proofs.Faulty.{cuts}
 use borrow.Author.Needs.{needs}
 use Rattle.events.proofs.faults.cut_in_order.Statement.{statement}

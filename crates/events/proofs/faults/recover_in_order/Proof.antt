@@ -1,4 +1,4 @@
-use Rattle.events.proofs.Advances.{now-four, now-there}
+use Rattle.events.proofs.Ways.{now-four, now-there}
 use Rattle.events.proofs.Faulty.{recovers}
 use Rattle.tables.proofs.Known.{sized}
 use borrow.Author.Needs.{needs}
