@@ -14,8 +14,8 @@ use Rattle.protocol.specs.declared.Refusal.the-variants.{FieldOutOfRange, IsUp,
 use Rattle.tables.specs.View.{Sized, packPartition, partitionAt, shaped, view, viewPartition}
 use Rattle.tables.specs.declared.Partition.{Partition}
 use Rattle.tables.specs.declared.Tables.{Tables}
-use Rattle.events.specs.Called.{Ready, refusedWith, stored, tested}
-use Rattle.events.specs.declared.Answered.{Answered}
+use Rattle.answers.specs.Called.{Ready, refusedWith, stored, tested}
+use Rattle.answers.specs.declared.Answered.{Answered}
 use Rattle.picture.specs.Answers.{Pictured, noPicture, readOr, toldPicture}
 use Rattle.picture.specs.Picture.{first, read}
 use Rattle.picture.specs.Rows.{fail, more}
@@ -25,8 +25,8 @@ use Rattle.picture.specs.declared.PictureRead.{PictureRead}
 use Rattle.loading.specs.Loaded.{loaded, replaced, shownBy}
 use Rattle.lists.proofs.Tests.{byTest}
 use Rattle.tables.proofs.Packs.{partition-unpack}
-use Rattle.events.proofs.Ways.{now-four, now-there}
-use Rattle.events.proofs.Ways.{now-ready, passes, read-up, ready-test, ready-view, refuses, test-fails, test-passes}
+use Rattle.answers.proofs.Ways.{now-four, now-there}
+use Rattle.answers.proofs.Ways.{now-ready, passes, read-up, ready-test, ready-view, refuses, test-fails, test-passes}
 
 -- ---- a picture that was read, with the header i and the tables y
 

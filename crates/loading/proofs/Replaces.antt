@@ -7,13 +7,13 @@ use Rattle.protocol.specs.declared.Refusal.the-variants.{OutOfOrder}
 use Rattle.protocol.specs.declared.Reply.the-variants.{None}
 use Rattle.tables.specs.View.{pack, shaped, view}
 use Rattle.tables.specs.declared.Tables.{Tables}
-use Rattle.events.specs.Called.{acceptedWith, refusedWith, stored}
-use Rattle.events.specs.declared.Answered.{Answered}
+use Rattle.answers.specs.Called.{acceptedWith, refusedWith, stored}
+use Rattle.answers.specs.declared.Answered.{Answered}
 use Rattle.loading.specs.Loaded.{replaced}
 use Rattle.lists.proofs.Tests.{byTest}
 use Rattle.tables.proofs.Packs.{view-pack}
 use Rattle.tables.proofs.Shapes.{order-shaped}
-use Rattle.events.proofs.Ways.{accepts, passes, refuses}
+use Rattle.answers.proofs.Ways.{accepts, passes, refuses}
 
 -- ---- the stored form u of a model n: the test of its order is n's
 

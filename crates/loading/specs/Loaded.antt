@@ -10,8 +10,8 @@ use Rattle.protocol.specs.declared.Reply.the-variants.{None}
 use Rattle.tables.specs.View.{shaped, view, viewPartition}
 use Rattle.tables.specs.declared.Partition.{Partition as Stored}
 use Rattle.tables.specs.declared.Tables.{Tables}
-use Rattle.events.specs.Called.{stored}
-use Rattle.events.specs.declared.Answered.{Answered}
+use Rattle.answers.specs.Called.{stored}
+use Rattle.answers.specs.declared.Answered.{Answered}
 use Rattle.picture.specs.Picture.{Picture}
 use Rattle.picture.specs.Store.{load}
 use Rattle.picture.specs.declared.Head.{Head}

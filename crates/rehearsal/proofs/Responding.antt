@@ -14,8 +14,8 @@ use Rattle.protocol.specs.declared.Answer.{Answer}
 use Rattle.protocol.specs.declared.Tally.{Tally}
 use Rattle.tables.specs.View.{Sized, view}
 use Rattle.tables.specs.declared.Tables.{Tables}
-use Rattle.events.specs.Called.{called}
-use Rattle.events.specs.declared.Answered.{Answered}
+use Rattle.answers.specs.Called.{called}
+use Rattle.answers.specs.declared.Answered.{Answered}
 use Rattle.settle.specs.Settled.{settled}
 use Rattle.settle.specs.declared.Settled.{Settled}
 use Rattle.rehearsal.specs.Answers.{Numbers, squareOf, stored}

@@ -23,8 +23,8 @@ use Rattle.tables.specs.View.{pack, shaped, view}
 use Rattle.tables.specs.declared.Tables.{Tables}
 use Rattle.tables.proofs.Packs.{view-pack}
 use Rattle.tables.proofs.Shapes.{pack-shaped}
-use Rattle.events.specs.Called.{Ready, called, stored}
-use Rattle.events.specs.declared.Answered.{Answered}
+use Rattle.answers.specs.Called.{Ready, called, stored}
+use Rattle.answers.specs.declared.Answered.{Answered}
 use Rattle.settle.specs.Settled.{settled, settledOn}
 use Rattle.settle.specs.declared.Settled.{Settled}
 use Rattle.rehearsal.specs.Line.{Advance, Command, Crash, Create, Cut, Deliver, Link, NotUnderstood, Open, Recover, Settle, Square, Totals, Unlink, Verb}

@@ -12,8 +12,8 @@ use Rattle.protocol.specs.Tables.{fresh}
 use Rattle.protocol.specs.declared.Refusal.the-variants.{Accepted, NotUnderstood as LineNotUnderstood}
 use Rattle.tables.specs.View.{pack, view}
 use Rattle.tables.specs.declared.Tables.{Tables}
-use Rattle.events.specs.Called.{Ready, called}
-use Rattle.events.specs.declared.Answered.{Answered}
+use Rattle.answers.specs.Called.{Ready, called}
+use Rattle.answers.specs.declared.Answered.{Answered}
 use Rattle.settle.specs.Settled.{settled}
 use Rattle.settle.specs.declared.Settled.{Settled}
 use Rattle.rehearsal.specs.Answers.{numbersOf, stored}

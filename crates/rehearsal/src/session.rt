@@ -9,7 +9,7 @@ use crate::Numbers;
 use crate::Verb;
 use crate::answer;
 use crate::counts;
-use events::Answered;
+use answers::Answered;
 use protocol::Answer;
 use protocol::Refusal;
 use settle::run;

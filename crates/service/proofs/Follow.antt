@@ -15,7 +15,7 @@ use Rattle.protocol.proofs.Claimed.{order-kept, refusals-keep}
 use Rattle.tables.specs.View.{pack, view}
 use Rattle.tables.proofs.Packs.{view-pack}
 use Rattle.tables.proofs.Shapes.{order-shaped}
-use Rattle.events.specs.Called.{called, stored}
+use Rattle.answers.specs.Called.{called, stored}
 use Rattle.settle.specs.Settled.{settled, settledOn}
 use Rattle.service.specs.Calls.{afterCalls, reachedBy}
 

@@ -19,7 +19,7 @@ use Rattle.protocol.proofs.Kept.{keeps-order}
 use Rattle.tables.specs.View.{pack}
 use Rattle.tables.proofs.Packs.{view-pack}
 use Rattle.tables.proofs.Shapes.{order-shaped}
-use Rattle.events.specs.Called.{acceptedWith, called, stored}
+use Rattle.answers.specs.Called.{acceptedWith, called, stored}
 use Rattle.picture.specs.Picture.{first, largestPicture, pictureOf, write}
 use Rattle.picture.specs.Store.{load, store, writtenInto}
 use Rattle.picture.proofs.Claimed.{claimed}

@@ -6,7 +6,7 @@ use Rattle.protocol.specs.Events.{Event}
 use Rattle.protocol.specs.Tables.{fresh}
 use Rattle.tables.specs.View.{pack}
 use Rattle.tables.specs.declared.Tables.{Tables}
-use Rattle.events.specs.Called.{called}
+use Rattle.answers.specs.Called.{called}
 use Rattle.writing.specs.Written.{writtenFrom}
 
 -- the tables after calls, each accepted or refused

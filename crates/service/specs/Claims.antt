@@ -15,8 +15,8 @@ use Rattle.protocol.specs.Tables.{Model, fresh, isPartition, partition}
 use Rattle.protocol.specs.declared.Tally.{Tally}
 use Rattle.tables.specs.View.{pack, view}
 use Rattle.tables.specs.declared.Tables.{Tables}
-use Rattle.events.specs.Called.{acceptedWith, called}
-use Rattle.events.specs.declared.Answered.{Answered}
+use Rattle.answers.specs.Called.{acceptedWith, called}
+use Rattle.answers.specs.declared.Answered.{Answered}
 use Rattle.settle.specs.Settled.{settled, settledOn}
 use Rattle.settle.specs.declared.Settled.{Settled}
 use Rattle.protocol.specs.declared.Reply.the-variants.{None}

@@ -20,7 +20,7 @@ use Rattle.tables.specs.View.{Sized, pack, shaped, view}
 use Rattle.tables.specs.declared.Tables.{Tables}
 use Rattle.tables.proofs.Packs.{pack-view, view-pack}
 use Rattle.tables.proofs.Shapes.{order-shaped}
-use Rattle.events.specs.Called.{Ready}
+use Rattle.answers.specs.Called.{Ready}
 use Rattle.settle.specs.Settled.{Counts, Settled, Step, settled, settledOn, stepOf}
 
 -- ---- tables in order, stored

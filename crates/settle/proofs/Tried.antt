@@ -22,9 +22,9 @@ use Rattle.tables.specs.View.{Sized, partitionAt, recordsOf, view}
 use Rattle.tables.specs.declared.Partition.{Partition}
 use Rattle.tables.specs.declared.Records.{Records}
 use Rattle.tables.specs.declared.Tables.{Tables}
-use Rattle.events.specs.declared.Answered.{Answered}
-use Rattle.events.specs.Called.{Ready, stored}
-use Rattle.events.proofs.Ways.{read-count, read-four, read-records, read-view, ready-view}
+use Rattle.answers.specs.declared.Answered.{Answered}
+use Rattle.answers.specs.Called.{Ready, stored}
+use Rattle.answers.proofs.Ways.{read-count, read-four, read-records, read-view, ready-view}
 use Rattle.settle.specs.Settled.{LogOf, Step, advancesOf, deliveriesFrom, stayed, stepOf, tried}
 use Rattle.settle.proofs.First.{each-found, each-missed, each-none, first-kept, first-one, first-past, first-refused, map-each}
 

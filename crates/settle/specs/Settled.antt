@@ -17,7 +17,7 @@ use Rattle.protocol.specs.declared.Tally.{Tally}
 use Rattle.tables.specs.View.{pack, partitionAt, shaped, view}
 use Rattle.tables.specs.declared.Records.{Records}
 use Rattle.tables.specs.declared.Tables.{Tables}
-use Rattle.events.specs.declared.Answered.{Answered}
+use Rattle.answers.specs.declared.Answered.{Answered}
 pub use Rattle.settle.specs.declared.Settled.{Settled}
 pub use Rattle.settle.specs.declared.Step.{Step}
 

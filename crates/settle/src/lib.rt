@@ -3,7 +3,7 @@
 ghost use mathlib.Core.Path.{_≡_};
 ghost use Rattle.protocol.specs.Settle.{zeroTally};
 ghost use Rattle.settle.specs.Settled.{reported, settled};
-use events::Answered;
+use answers::Answered;
 use protocol::Refusal;
 use protocol::Reply;
 use protocol::Tally;

@@ -6,12 +6,10 @@ ghost use Rattle.protocol.specs.Bounds.{maxPartitions};
 ghost use Rattle.protocol.specs.Events.{Advancing, Delivering, bare};
 ghost use Rattle.protocol.specs.Settle.{advances, candidates, deliveries, firstAccepted};
 ghost use Rattle.tables.specs.View.{view};
-ghost use Rattle.events.specs.Called.{Ready};
+ghost use Rattle.answers.specs.Called.{Ready};
 ghost use Rattle.settle.specs.Settled.{LogOf, advancesOf, deliveriesFrom, stayed, stepOf, tried};
 use crate::Step;
-use events::Answered;
-use events::receive;
-use events::step;
+use answers::Answered;
 use protocol::Reply;
 use tables::Records;
 use tables::Tables;
@@ -48,7 +46,7 @@ fn try_advance(t: Tables, p: usize, number: u32) -> Step
     requires { ⌜ Ready t × (p < t .count) × (p < maxPartitions) ⌝ }
     ensures { λ s. ⌜ s ≡ stepOf t (firstAccepted bare (view t) (Advancing p number ∷ [])) ⌝ }
 {
-    let a = step::advance_there(t, p, number);
+    let a = advances::advance_there(t, p, number);
     tried(a)
 }
 
@@ -99,7 +97,7 @@ fn try_delivery(t: Tables, s: usize, r: usize) -> Step
     requires { ⌜ Ready t × (s < t .count) × (s < maxPartitions) × (r < t .count) × (r < maxPartitions) ⌝ }
     ensures { λ a. ⌜ a ≡ stepOf t (firstAccepted bare (view t) (Delivering s r ∷ [])) ⌝ }
 {
-    let a = receive::deliver_there(t, s, r);
+    let a = deliveries::deliver_there(t, s, r);
     tried(a)
 }
 

@@ -18,7 +18,7 @@ use Rattle.protocol.specs.declared.Stage.the-variants.{Ready as ReadyStage}
 use Rattle.tables.specs.View.{Sized, partitionAt, shaped, view}
 use Rattle.tables.specs.declared.Partition.{Partition}
 use Rattle.tables.specs.declared.Tables.{Tables}
-use Rattle.events.specs.Called.{Ready}
+use Rattle.answers.specs.Called.{Ready}
 use Rattle.codec.specs.Codec.{via}
 use Rattle.codec.specs.Over.{over}
 use Rattle.picture.specs.Answers.{itemsIn}
@@ -28,8 +28,8 @@ use Rattle.picture.specs.Store.{store, unwritten, writtenInto}
 use Rattle.picture.specs.declared.Head.{Head}
 use Rattle.writing.specs.Written.{Reported, after, refusedFor, writtenFrom}
 use Rattle.lists.proofs.Tests.{byTest}
-use Rattle.events.proofs.Ways.{now-four, now-there}
-use Rattle.events.proofs.Ways.{now-ready, read-ranged, read-sized, read-view, ready-test, ready-there, ready-view}
+use Rattle.answers.proofs.Ways.{now-four, now-there}
+use Rattle.answers.proofs.Ways.{now-ready, read-ranged, read-sized, read-view, ready-test, ready-there, ready-view}
 use Rattle.picture.proofs.Lengths.{picture-length, sized}
 use Rattle.writing.proofs.Pictures.{backpointer-count, entry-count, record-count}
 

@@ -1,7 +1,7 @@
 // A partition's picture written into lent room, on any tables and any room, exactly as document 01's definition says.
 ghost use mathlib.Core.Path.{_≡_};
 ghost use Rattle.writing.specs.Written.{after, writtenFrom};
-use events::is_there;
+use answers::is_there;
 use protocol::Refusal;
 use tables::Tables;
 

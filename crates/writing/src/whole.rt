@@ -5,7 +5,7 @@ ghost use lib.ListN.{length};
 ghost use Rattle.codec.specs.Over.{over};
 ghost use Rattle.protocol.specs.Bounds.{maxPartitions};
 ghost use Rattle.tables.specs.View.{view, Ranged};
-ghost use Rattle.events.specs.Called.{Ready};
+ghost use Rattle.answers.specs.Called.{Ready};
 ghost use Rattle.picture.specs.Picture.{first, pictureOf, put, write};
 ghost use Rattle.picture.specs.Answers.{itemsIn};
 ghost use Rattle.picture.specs.Store.{writtenInto};

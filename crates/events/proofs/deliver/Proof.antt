@@ -1,11 +1,11 @@
-use Rattle.events.proofs.Calls.{calls}
-use Rattle.events.proofs.Ways.{now-ready}
+use Rattle.answers.proofs.Calls.{calls}
+use Rattle.answers.proofs.Ways.{now-ready}
 use Rattle.tables.proofs.Known.{sized}
 use borrow.Author.Needs.{needs}
 use Rattle.events.proofs.deliver.Statement.{statement}
 use Rattle.events.proofs.deliver.Tie as tie
-use Rattle.events.proofs.receive.deliver_in_order.Reads as deliver-in-order-reads
-use Rattle.events.proofs.refused.Reads as refused-reads
+use Rattle.deliveries.proofs.deliver_in_order.Reads as deliver-in-order-reads
+use Rattle.answers.proofs.refused.Reads as refused-reads
 
 in-order-requires : tie.Need-in-order-requires
 in-order-requires c κs = search (calls, now-ready, sized, needs)

@@ -1,4 +1,4 @@
-use Rattle.events.proofs.Faulty.{opens}
+use Rattle.faults.proofs.Faulty.{opens}
 use borrow.Author.Needs.{needs}
 use Rattle.events.proofs.open.Statement.{statement}
 use Rattle.events.proofs.open.Tie as tie

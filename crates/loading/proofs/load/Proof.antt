@@ -3,7 +3,7 @@ use Rattle.tables.proofs.Known.{sized}
 use borrow.Author.Needs.{needs}
 use Rattle.loading.proofs.load.Statement.{statement}
 use Rattle.loading.proofs.load.Tie as tie
-use Rattle.events.proofs.refused.Reads as refused-reads
+use Rattle.answers.proofs.refused.Reads as refused-reads
 use Rattle.loading.proofs.load_there.Reads as load-there-reads
 
 in-order-requires : tie.Need-in-order-requires

@@ -3,7 +3,7 @@ use Rattle.tables.proofs.Known.{sized}
 use borrow.Author.Needs.{needs}
 use Rattle.loading.proofs.load_shown.Statement.{statement}
 use Rattle.loading.proofs.load_shown.Tie as tie
-use Rattle.events.proofs.refused.Reads as refused-reads
+use Rattle.answers.proofs.refused.Reads as refused-reads
 use Rattle.loading.proofs.replace.Reads as replace-reads
 
 is-for-requires : tie.Need-is-for-requires

@@ -2,7 +2,7 @@ use Rattle.loading.proofs.Loads.{readings}
 use borrow.Author.Needs.{needs}
 use Rattle.loading.proofs.load_there.Statement.{statement}
 use Rattle.loading.proofs.load_there.Tie as tie
-use Rattle.events.proofs.refused.Reads as refused-reads
+use Rattle.answers.proofs.refused.Reads as refused-reads
 
 read-picture-requires : tie.Need-read-picture-requires
 read-picture-requires c κs = search (readings, needs)

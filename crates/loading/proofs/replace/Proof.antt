@@ -1,11 +1,11 @@
 use Rattle.loading.proofs.Replaces.{replaces}
-use Rattle.events.proofs.Ways.{ready-stored}
+use Rattle.answers.proofs.Ways.{ready-stored}
 use Rattle.tables.proofs.Known.{sized}
 use borrow.Author.Needs.{needs}
 use Rattle.loading.proofs.replace.Statement.{statement}
 use Rattle.loading.proofs.replace.Tie as tie
-use Rattle.events.proofs.accepted.Reads as accepted-reads
-use Rattle.events.proofs.refused.Reads as refused-reads
+use Rattle.answers.proofs.accepted.Reads as accepted-reads
+use Rattle.answers.proofs.refused.Reads as refused-reads
 
 with-partition-requires : tie.Need-with-partition-requires
 with-partition-requires c κs = search (replaces, ready-stored, sized, needs)

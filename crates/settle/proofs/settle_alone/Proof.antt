@@ -42,11 +42,11 @@ use Rattle.protocol.specs.Settle.{zeroTally}
 use Rattle.settle.specs.Settled.{reported, settled}
 use Rattle.protocol.specs.declared.Tally.{Tally}
 use Rattle.tables.specs.declared.Tables.{Tables as Tabs}
-use Rattle.events.specs.declared.Answered.{Answered}
+use Rattle.answers.specs.declared.Answered.{Answered}
 use Rattle.settle.specs.declared.Settled.{Settled}
 use Rattle.tables.proofs.Tables as B
-use Rattle.events.proofs.Answered as R
-use Rattle.events.proofs.Answered.Laws as R′
+use Rattle.answers.proofs.Answered as R
+use Rattle.answers.proofs.Answered.Laws as R′
 use Rattle.tables.proofs.Tables.Laws as B′
 use Rattle.settle.proofs.Settled as S
 use Rattle.settle.proofs.Settled.Laws as S′

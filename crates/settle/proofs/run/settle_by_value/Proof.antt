@@ -1,5 +1,5 @@
 use Rattle.settle.proofs.Runs.{settles}
-use Rattle.events.proofs.Ways.{now-ready}
+use Rattle.answers.proofs.Ways.{now-ready}
 use Rattle.tables.proofs.Known.{sized}
 use borrow.Author.Needs.{needs}
 use Rattle.settle.proofs.run.settle_by_value.Statement.{statement}

@@ -1,5 +1,5 @@
 use Rattle.writing.proofs.Writes.{writes}
-use Rattle.events.proofs.Ways.{ready-count}
+use Rattle.answers.proofs.Ways.{ready-count}
 use Rattle.tables.proofs.Known.{sized}
 use borrow.Author.Needs.{needs}
 use Rattle.writing.proofs.whole.write_there.Statement.{statement}

@@ -1,0 +1,47 @@
+use Rattle.advances.proofs.Advances.{records-sought}
+use Rattle.answers.proofs.Ways.{read-records}
+use Rattle.tables.proofs.Known.{sized}
+use borrow.Author.Needs.{needs}
+use Rattle.advances.proofs.advance_up.Statement.{statement}
+use Rattle.advances.proofs.advance_up.Tie as tie
+
+mul-x : tie.Need-mul-x
+mul-x c = search (records-sought, read-records, sized, needs)
+
+element-copy-out-x : tie.Need-element-copy-out-x
+element-copy-out-x c = search (records-sought, read-records, sized, needs)
+
+find-record-requires : tie.Need-find-record-requires
+find-record-requires c κs = search (records-sought, read-records, sized, needs)
+
+enum-told : tie.Need-enum-told
+enum-told c = search (records-sought, read-records, sized, needs)
+
+refused-requires : tie.Need-refused-requires
+refused-requires c κs = search (records-sought, read-records, sized, needs)
+
+enum-known-found : tie.Need-enum-known-found
+enum-known-found c = search (records-sought, read-records, sized, needs)
+
+advance-record-requires : tie.Need-advance-record-requires
+advance-record-requires c κs = search (records-sought, read-records, sized, needs)
+
+returns : tie.Need-returns
+returns c = search (records-sought, read-records, sized, needs)
+
+returns-2 : tie.Need-returns-2
+returns-2 c = search (records-sought, read-records, sized, needs)
+
+pub advance-up-spec : {M : Type 1} → statement M
+advance-up-spec =
+    tie.close
+    (tie.spec
+    mul-x
+    element-copy-out-x
+    find-record-requires
+    enum-told
+    refused-requires
+    enum-known-found
+    advance-record-requires
+    returns
+    returns-2)

@@ -1,0 +1,57 @@
+use Rattle.advances.proofs.Advancing.{steps}
+use Rattle.answers.proofs.Ways.{ready-stored}
+use Rattle.tables.proofs.Stored.{packed-records, packed-entries}
+use Rattle.lists.proofs.Finds.{found-below, found-in, found-fits}
+use Rattle.tables.proofs.Known.{sized}
+use borrow.Author.Needs.{needs}
+use Rattle.advances.proofs.take_out.Statement.{statement}
+use Rattle.advances.proofs.take_out.Tie as tie
+
+mul-x : tie.Need-mul-x
+mul-x c = search (steps, ready-stored, packed-records, packed-entries, found-below, found-in, found-fits, sized, needs)
+
+element-copy-out-x : tie.Need-element-copy-out-x
+element-copy-out-x c = search (steps, ready-stored, packed-records, packed-entries, found-below, found-in, found-fits, sized, needs)
+
+find-entry-requires : tie.Need-find-entry-requires
+find-entry-requires c κs = search (steps, ready-stored, packed-records, packed-entries, found-below, found-in, found-fits, sized, needs)
+
+enum-told : tie.Need-enum-told
+enum-told c = search (steps, ready-stored, packed-records, packed-entries, found-below, found-in, found-fits, sized, needs)
+
+refused-requires : tie.Need-refused-requires
+refused-requires c κs = search (steps, ready-stored, packed-records, packed-entries, found-below, found-in, found-fits, sized, needs)
+
+enum-known-found : tie.Need-enum-known-found
+enum-known-found c = search (steps, ready-stored, packed-records, packed-entries, found-below, found-in, found-fits, sized, needs)
+
+remove-entry-requires : tie.Need-remove-entry-requires
+remove-entry-requires c κs = search (steps, ready-stored, packed-records, packed-entries, found-below, found-in, found-fits, sized, needs)
+
+with-entries-requires : tie.Need-with-entries-requires
+with-entries-requires c κs = search (steps, ready-stored, packed-records, packed-entries, found-below, found-in, found-fits, sized, needs)
+
+accepted-requires : tie.Need-accepted-requires
+accepted-requires c κs = search (steps, ready-stored, packed-records, packed-entries, found-below, found-in, found-fits, sized, needs)
+
+returns : tie.Need-returns
+returns c = search (steps, ready-stored, packed-records, packed-entries, found-below, found-in, found-fits, sized, needs)
+
+returns-2 : tie.Need-returns-2
+returns-2 c = search (steps, ready-stored, packed-records, packed-entries, found-below, found-in, found-fits, sized, needs)
+
+pub take-out-spec : {M : Type 1} → statement M
+take-out-spec =
+    tie.close
+    (tie.spec
+    mul-x
+    element-copy-out-x
+    find-entry-requires
+    enum-told
+    refused-requires
+    enum-known-found
+    remove-entry-requires
+    with-entries-requires
+    accepted-requires
+    returns
+    returns-2)

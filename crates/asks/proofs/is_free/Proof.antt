@@ -1,0 +1,22 @@
+use Rattle.lists.proofs.Finds.{found-none, found-some}
+use borrow.Author.Needs.{needs}
+use Rattle.asks.proofs.is_free.Statement.{statement}
+use Rattle.asks.proofs.is_free.Tie as tie
+
+find-name-requires : tie.Need-find-name-requires
+find-name-requires c κs = search (found-none, found-some, needs)
+
+enum-told : tie.Need-enum-told
+enum-told c = search (found-none, found-some, needs)
+
+enum-told-2 : tie.Need-enum-told-2
+enum-told-2 c = search (found-none, found-some, needs)
+
+returns : tie.Need-returns
+returns c = search (found-none, found-some, needs)
+
+returns-2 : tie.Need-returns-2
+returns-2 c = search (found-none, found-some, needs)
+
+pub is-free-spec : {M : Type 1} → statement M
+is-free-spec = tie.close (tie.spec find-name-requires enum-told enum-told-2 returns returns-2)

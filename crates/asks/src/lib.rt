@@ -1,0 +1,273 @@
+// Link, create and unlink: an ask opens a ready record (document 01, 'The nine events', 1 to 3).
+ghost use mathlib.Core.List.{_∷_, []};
+ghost use mathlib.Core.Path.{_≡_};
+ghost use Prim.Native.Nat.{_<_, _≤_};
+ghost use Rattle.lists.specs.Lists.{keep, isNone};
+ghost use Rattle.protocol.specs.Answers.{accept};
+ghost use Rattle.protocol.specs.Ask.{ask, askTables, openAsk, asked, unlink, unlinkFound, unlinkOf};
+ghost use Rattle.protocol.specs.declared.Reply.the-variants.{None};
+ghost use Rattle.protocol.specs.Bounds.{maxEntries, maxPartitions, maxRecords};
+ghost use Rattle.protocol.specs.Tables.{openRecord, partition, recordBears, standsUnder};
+ghost use Rattle.tables.specs.View.{view, entriesOf, recordsOf, partitionAt};
+ghost use Rattle.answers.specs.Called.{Ready, stored, tested};
+ghost use Rattle.asks.specs.Asked.{Opens, Placed, PlacedIn, askInRange, inDirectory};
+use answers::Answered;
+use answers::accepted;
+use answers::refused;
+use answers::small;
+use lists::Found;
+use names::Name;
+use protocol::Entry;
+use protocol::Kind;
+use protocol::Record;
+use protocol::Refusal;
+use protocol::Reply;
+use protocol::Stage;
+use tables::DIRECTORIES;
+use tables::Entries;
+use tables::LARGEST_NUMBER;
+use tables::MAX_ENTRIES;
+use tables::MAX_RECORDS;
+use tables::OBJECTS;
+use tables::Records;
+use tables::Tables;
+use tables::reads;
+use tables::stores;
+use tables::writes;
+
+// Whether partition p of n, directory d and object o of partition q are there.
+pub fn ask_in_range(n: usize, p: u32, d: u32, q: u32, o: u32) -> bool
+    ensures { λ r. ⌜ r ≡ askInRange n p d q o ⌝ }
+{
+    if n <= p as usize {
+        return false;
+    }
+    if DIRECTORIES as u32 <= d {
+        return false;
+    }
+    if n <= q as usize {
+        return false;
+    }
+    o < OBJECTS as u32
+}
+
+pub fn is_free(l: Entries, directory: u8, name: Name) -> bool
+    requires { ⌜ l .count ≤ maxEntries ⌝ }
+    ensures { λ r. ⌜ r ≡ isNone (keep (standsUnder directory name) (entriesOf l)) ⌝ }
+{
+    let found = reads::find_name(l, directory, name);
+    match found {
+        Found::At(_) => false,
+        Found::Nothing => true,
+    }
+}
+
+pub fn asked_record(
+    kind: Kind,
+    directory: u8,
+    name: Name,
+    partition: u8,
+    object: u8,
+    number: u32,
+) -> Record
+    ensures { λ r. ⌜ r ≡ asked kind directory name partition object number ⌝ }
+{
+    let stage = Stage::Ready;
+    Record {
+        kind: kind,
+        directory: directory,
+        name: name,
+        partition: partition,
+        object: object,
+        number: number,
+        stage: stage,
+    }
+}
+
+// ---- link and create
+
+// The number is given, and the record opened.
+pub fn open_ask(kind: Kind, t: Tables, p: usize, d: u8, name: Name, q: u8, o: u8) -> Answered
+    requires { ⌜ Ready t × (p < t .count) × (p < maxPartitions) × Opens t p ⌝ }
+    ensures { λ r. ⌜ r ≡ stored t (openAsk kind (view t) p d name q o) ⌝ }
+{
+    let x = t.partitions[p];
+    let number = x.last + 1;
+    let record = asked_record(kind, d, name, q, o, number);
+    let records = x.records;
+    let more = writes::add_record(records, record);
+    let given = stores::with_last(t, p, number);
+    let opened = stores::with_records(given, p, more);
+    accepted(opened, number, Reply::None)
+}
+
+// The refusals that look into the tables of p.
+pub fn ask_tables(kind: Kind, t: Tables, p: usize, d: u8, name: Name, q: u8, o: u8) -> Answered
+    requires { ⌜ Ready t × (p < t .count) × (p < maxPartitions) ⌝ }
+    ensures { λ r. ⌜ r ≡ stored t (askTables kind (view t) p d name q o) ⌝ }
+{
+    let x = t.partitions[p];
+    let entries = x.entries;
+    let records = x.records;
+    if is_free(entries, d, name) {} else {
+        return refused(t, Refusal::NameExists);
+    }
+    if x.last < LARGEST_NUMBER {} else {
+        return refused(t, Refusal::NumbersSpent);
+    }
+    if records.count < MAX_RECORDS {} else {
+        return refused(t, Refusal::LogFull);
+    }
+    if reads::claimed(entries, records) < MAX_ENTRIES {} else {
+        return refused(t, Refusal::EntriesFull);
+    }
+    open_ask(kind, t, p, d, name, q, o)
+}
+
+// The arguments are in range.
+pub fn ask_placed(kind: Kind, t: Tables, p: u32, d: u32, name: Name, q: u32, o: u32) -> Answered
+    requires { ⌜ Ready t × Placed t p d q o ⌝ }
+    ensures { λ r. ⌜ r ≡ stored t (ask kind (view t) p d name q o) ⌝ }
+{
+    if names::good(name) {} else {
+        return refused(t, Refusal::BadName);
+    }
+    let at = p as usize;
+    let x = t.partitions[at];
+    if x.up {} else {
+        return refused(t, Refusal::Down);
+    }
+    let directory = small(d);
+    let partition = small(q);
+    let object = small(o);
+    ask_tables(kind, t, at, directory, name, partition, object)
+}
+
+pub fn ask_in_order(kind: Kind, t: Tables, p: u32, d: u32, name: Name, q: u32, o: u32) -> Answered
+    requires { ⌜ Ready t ⌝ }
+    ensures { λ r. ⌜ r ≡ stored t (ask kind (view t) p d name q o) ⌝ }
+{
+    if ask_in_range(t.count, p, d, q, o) {} else {
+        return refused(t, Refusal::OutOfRange);
+    }
+    ask_placed(kind, t, p, d, name, q, o)
+}
+
+// Link or create, on any tables.
+pub fn ask(kind: Kind, t: Tables, p: u32, d: u32, name: Name, q: u32, o: u32) -> Answered
+    ensures { λ r. ⌜ r ≡ tested t (ask kind (view t) p d name q o) ⌝ }
+{
+    if order::in_order(t) {} else {
+        return refused(t, Refusal::OutOfOrder);
+    }
+    ask_in_order(kind, t, p, d, name, q, o)
+}
+
+// ---- unlink
+
+pub fn is_unopened(l: Records, number: u32) -> bool
+    requires { ⌜ l .count ≤ maxRecords ⌝ }
+    ensures { λ r. ⌜ r ≡ isNone (keep (recordBears number) (recordsOf l)) ⌝ }
+{
+    let found = reads::find_record(l, number);
+    match found {
+        Found::At(_) => false,
+        Found::Nothing => true,
+    }
+}
+
+pub fn unlink_record(e: Entry) -> Record
+    ensures { λ r. ⌜ r ≡ unlinkOf e ⌝ }
+{
+    let kind = Kind::Unlink;
+    let stage = Stage::Ready;
+    let name = e.name;
+    Record {
+        kind: kind,
+        directory: e.directory,
+        name: name,
+        partition: e.partition,
+        object: e.object,
+        number: e.number,
+        stage: stage,
+    }
+}
+
+pub fn open_unlink(t: Tables, p: usize, e: Entry) -> Answered
+    requires { ⌜ Ready t × (p < t .count) × (p < maxPartitions) × (partitionAt t p .records .count < maxRecords) ⌝ }
+    ensures { λ r. ⌜ r ≡ stored t (accept (e .number) None (openRecord (view t) p (unlinkOf e))) ⌝ }
+{
+    let x = t.partitions[p];
+    let record = unlink_record(e);
+    let records = x.records;
+    let more = writes::add_record(records, record);
+    let opened = stores::with_records(t, p, more);
+    accepted(opened, e.number, Reply::None)
+}
+
+// The entry that stands under the name.
+pub fn unlink_entry(t: Tables, p: usize, e: Entry) -> Answered
+    requires { ⌜ Ready t × (p < t .count) × (p < maxPartitions) ⌝ }
+    ensures { λ r. ⌜ r ≡ stored t (unlinkFound (view t) p (e ∷ [])) ⌝ }
+{
+    let x = t.partitions[p];
+    let records = x.records;
+    if is_unopened(records, e.number) {} else {
+        return refused(t, Refusal::RecordOpen);
+    }
+    if records.count < MAX_RECORDS {} else {
+        return refused(t, Refusal::LogFull);
+    }
+    open_unlink(t, p, e)
+}
+
+pub fn unlink_tables(t: Tables, p: usize, d: u8, name: Name) -> Answered
+    requires { ⌜ Ready t × (p < t .count) × (p < maxPartitions) ⌝ }
+    ensures { λ r. ⌜ r ≡ stored t (unlinkFound (view t) p (keep (standsUnder d name) (partition (view t) p .entries))) ⌝ }
+{
+    let x = t.partitions[p];
+    let entries = x.entries;
+    let found = reads::find_name(entries, d, name);
+    match found {
+        Found::Nothing => refused(t, Refusal::NameAbsent),
+        Found::At(i) => {
+            let e = entries.items[i];
+            unlink_entry(t, p, e)
+        }
+    }
+}
+
+pub fn in_directory(n: usize, p: u32, d: u32) -> bool
+    ensures { λ r. ⌜ r ≡ inDirectory n p d ⌝ }
+{
+    if n <= p as usize {
+        return false;
+    }
+    d < DIRECTORIES as u32
+}
+
+pub fn unlink_placed(t: Tables, p: u32, d: u32, name: Name) -> Answered
+    requires { ⌜ Ready t × PlacedIn t p d ⌝ }
+    ensures { λ r. ⌜ r ≡ stored t (unlink (view t) p d name) ⌝ }
+{
+    if names::good(name) {} else {
+        return refused(t, Refusal::BadName);
+    }
+    let at = p as usize;
+    let x = t.partitions[at];
+    if x.up {} else {
+        return refused(t, Refusal::Down);
+    }
+    let directory = small(d);
+    unlink_tables(t, at, directory, name)
+}
+
+pub fn unlink_in_order(t: Tables, p: u32, d: u32, name: Name) -> Answered
+    requires { ⌜ Ready t ⌝ }
+    ensures { λ r. ⌜ r ≡ stored t (unlink (view t) p d name) ⌝ }
+{
+    if in_directory(t.count, p, d) {} else {
+        return refused(t, Refusal::OutOfRange);
+    }
+    unlink_placed(t, p, d, name)
+}

@@ -1,0 +1,35 @@
+use Rattle.deliveries.proofs.Receives.{answers}
+use Rattle.tables.proofs.Known.{sized}
+use borrow.Author.Needs.{needs}
+use Rattle.deliveries.proofs.answer.Statement.{statement}
+use Rattle.deliveries.proofs.answer.Tie as tie
+use Rattle.deliveries.proofs.verdict.verdict.Reads as verdict-reads
+
+mul-own : tie.Need-mul-own
+mul-own c = search (answers, sized, needs)
+
+element-copy-out-own : tie.Need-element-copy-out-own
+element-copy-out-own c = search (answers, sized, needs)
+
+number-of-requires : tie.Need-number-of-requires
+number-of-requires c κs = search (answers, sized, needs)
+
+verdict-requires : tie.Need-verdict-requires
+verdict-requires c κs = search (answers, sized, needs)
+
+carry-out-requires : tie.Need-carry-out-requires
+carry-out-requires c κs = search (answers, sized, needs)
+
+returns : tie.Need-returns
+returns c = search (answers, sized, needs)
+
+pub answer-spec : {M : Type 1} → statement M
+answer-spec =
+    tie.close
+    (tie.spec
+    mul-own
+    element-copy-out-own
+    number-of-requires
+    verdict-requires
+    carry-out-requires
+    returns)

@@ -1,0 +1,11 @@
+use Rattle.deliveries.proofs.Verdicts.{full-read}
+use Rattle.tables.proofs.Known.{backpointers-fit}
+use borrow.Author.Needs.{needs}
+use Rattle.deliveries.proofs.verdict.is_full.Statement.{statement}
+use Rattle.deliveries.proofs.verdict.is_full.Tie as tie
+
+returns : tie.Need-returns
+returns c = search (full-read, backpointers-fit, needs)
+
+pub is-full-spec : {M : Type 1} → statement M
+is-full-spec = tie.close (tie.spec returns)

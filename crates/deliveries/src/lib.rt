@@ -1,0 +1,260 @@
+// Deliver: the oldest message from a sender to a receiver (document 01, 'The nine events', 5).
+ghost use mathlib.Core.Bool.{_&&_};
+ghost use mathlib.Core.Path.{_≡_};
+ghost use Prim.Native.Nat.{_<_, _≤_};
+ghost use lib.Dec.{ltb};
+ghost use lib.ListN.{length};
+ghost use Rattle.lists.specs.Lists.{keep, mapIf, without};
+ghost use Rattle.protocol.specs.Bounds.{maxBackpointers, maxPartitions, maxRecords};
+ghost use Rattle.protocol.specs.Deliver.{answerTo, backpointerOf, carryOut, deliver, deliverOldest, isExactly, land, receive, stageAfter, verdict};
+ghost use Rattle.protocol.specs.Tables.{inStage, partition, queue, recordBears, send};
+ghost use Rattle.protocol.specs.declared.Kind.the-variants.{Link};
+ghost use Rattle.protocol.specs.declared.Verdict.the-variants.{AddsIt, DropsIt};
+ghost use Rattle.tables.specs.View.{backpointersOf, pack, packBackpointers, packRecords, recordsOf, view};
+ghost use Rattle.answers.specs.Called.{Ready, stored};
+ghost use Rattle.deliveries.specs.Taken.{Answers, Lands, OneExactly, Received};
+use answers::Answered;
+use answers::accepted;
+use answers::queues;
+use answers::refused;
+use lists::Found;
+use protocol::Backpointer;
+use protocol::Body;
+use protocol::Kind;
+use protocol::Message;
+use protocol::Refusal;
+use protocol::Reply;
+use protocol::Stage;
+use protocol::Verdict;
+use tables::Backpointers;
+use tables::Records;
+use tables::Tables;
+use tables::reads;
+use tables::stores;
+use tables::writes;
+
+pub mod verdict;
+
+// ---- a request from s, at the object's partition r
+
+pub fn answer_to(x: Message, body: Body) -> Message
+    ensures { λ a. ⌜ a ≡ answerTo x body ⌝ }
+{
+    let kind = x.kind;
+    let name = x.name;
+    Message {
+        body: body,
+        kind: kind,
+        directory: x.directory,
+        name: name,
+        partition: x.partition,
+        object: x.object,
+        number: x.number,
+    }
+}
+
+pub fn backpointer_of(s: u8, x: Message) -> Backpointer
+    ensures { λ b. ⌜ b ≡ backpointerOf s x ⌝ }
+{
+    let name = x.name;
+    Backpointer {
+        object: x.object,
+        parent: s,
+        directory: x.directory,
+        name: name,
+        number: x.number,
+    }
+}
+
+// Without the back-pointer that a request to remove is about, if it is there.
+pub fn without_exactly(l: Backpointers, s: u8, x: Message) -> Backpointers
+    requires { ⌜ (packBackpointers (backpointersOf l) ≡ l) × (l .count ≤ maxBackpointers) × (length (keep (isExactly s x) (backpointersOf l)) ≤ 1) ⌝ }
+    ensures { λ k. ⌜ k ≡ packBackpointers (without (isExactly s x) (backpointersOf l)) ⌝ }
+{
+    let found = reads::find_exactly(l, s, x);
+    match found {
+        Found::Nothing => l,
+        Found::At(i) => writes::remove_backpointer(l, i),
+    }
+}
+
+// A partition's number, as the tables hold it.
+pub fn number_of(p: usize) -> u8
+    requires { ⌜ p < maxPartitions ⌝ }
+    ensures { λ r. ⌜ r ≡ p ⌝ }
+{
+    p as u8
+}
+
+pub fn say(t: Tables, s: usize, r: usize, x: Message, body: Body) -> Tables
+    requires { ⌜ Answers t s r ⌝ }
+    ensures { λ u. ⌜ u ≡ pack (send (view t) r s (answerTo x body)) ⌝ }
+{
+    let answer = answer_to(x, body);
+    queues::send(t, r, s, answer)
+}
+
+pub fn add(t: Tables, s: usize, r: usize, x: Message) -> Tables
+    requires { ⌜ Answers t s r × (AddsIt ≡ verdict (partition (view t) r) s x) ⌝ }
+    ensures { λ u. ⌜ u ≡ pack (carryOut (view t) s r x AddsIt) ⌝ }
+{
+    let own = t.partitions[r];
+    let backpointers = own.backpointers;
+    let parent = number_of(s);
+    let item = backpointer_of(parent, x);
+    let more = writes::add_backpointer(backpointers, item);
+    let added = stores::with_backpointers(t, r, more);
+    let yes = Body::Yes;
+    say(added, s, r, x, yes)
+}
+
+pub fn remove(t: Tables, s: usize, r: usize, x: Message) -> Tables
+    requires { ⌜ Answers t s r × OneExactly t s r x ⌝ }
+    ensures { λ u. ⌜ u ≡ pack (carryOut (view t) s r x DropsIt) ⌝ }
+{
+    let own = t.partitions[r];
+    let backpointers = own.backpointers;
+    let parent = number_of(s);
+    let fewer = without_exactly(backpointers, parent, x);
+    let removed = stores::with_backpointers(t, r, fewer);
+    let yes = Body::Yes;
+    say(removed, s, r, x, yes)
+}
+
+pub fn carry_out(t: Tables, s: usize, r: usize, x: Message, v: Verdict) -> Tables
+    requires { ⌜ Answers t s r × OneExactly t s r x × (v ≡ verdict (partition (view t) r) s x) ⌝ }
+    ensures { λ u. ⌜ u ≡ pack (carryOut (view t) s r x v) ⌝ }
+{
+    match v {
+        Verdict::SaysOnly(body) => say(t, s, r, x, body),
+        Verdict::AddsIt => add(t, s, r, x),
+        Verdict::DropsIt => remove(t, s, r, x),
+    }
+}
+
+pub fn answer(t: Tables, s: usize, r: usize, x: Message) -> Tables
+    requires { ⌜ Answers t s r × OneExactly t s r x ⌝ }
+    ensures { λ u. ⌜ u ≡ pack (carryOut (view t) s r x (verdict (partition (view t) r) s x)) ⌝ }
+{
+    let own = t.partitions[r];
+    let backpointers = own.backpointers;
+    let parent = number_of(s);
+    let v = verdict::verdict(backpointers, parent, x);
+    carry_out(t, s, r, x, v)
+}
+
+// ---- an answer, at the record's partition r
+
+// Of a link, and of a create.
+pub fn stage_after_add(body: Body) -> Stage
+    ensures { λ g. ⌜ g ≡ stageAfter Link body ⌝ }
+{
+    match body {
+        Body::Request => Stage::Ready,
+        Body::Yes => Stage::Held,
+        Body::No => Stage::Ready,
+        Body::NoBecause(why) => Stage::Refused(why),
+    }
+}
+
+pub fn stage_after(kind: Kind, body: Body) -> Stage
+    ensures { λ g. ⌜ g ≡ stageAfter kind body ⌝ }
+{
+    match kind {
+        Kind::Link => stage_after_add(body),
+        Kind::Create => stage_after_add(body),
+        Kind::Unlink => Stage::Cleared,
+    }
+}
+
+// The record under the number in another stage, if it is there.
+pub fn with_stage(l: Records, number: u32, stage: Stage) -> Records
+    requires { ⌜ (packRecords (recordsOf l) ≡ l) × (l .count ≤ maxRecords) × (length (keep (recordBears number) (recordsOf l)) ≤ 1) ⌝ }
+    ensures { λ k. ⌜ k ≡ packRecords (mapIf (recordBears number) (inStage stage) (recordsOf l)) ⌝ }
+{
+    let found = reads::find_record(l, number);
+    match found {
+        Found::Nothing => l,
+        Found::At(i) => {
+            let own = l.items[i];
+            let item = advances::in_stage(stage, own);
+            writes::set_record(l, i, item)
+        }
+    }
+}
+
+pub fn land(t: Tables, r: usize, x: Message) -> Tables
+    requires { ⌜ Lands t r x ⌝ }
+    ensures { λ u. ⌜ u ≡ pack (land (view t) r x) ⌝ }
+{
+    let own = t.partitions[r];
+    let records = own.records;
+    let kind = x.kind;
+    let body = x.body;
+    let stage = stage_after(kind, body);
+    let landed = with_stage(records, x.number, stage);
+    stores::with_records(t, r, landed)
+}
+
+// ---- the event: r receives the oldest message from s
+
+// The message x was taken.
+pub fn receive(t: Tables, s: usize, r: usize, x: Message) -> Tables
+    requires { ⌜ Received t s r x ⌝ }
+    ensures { λ u. ⌜ u ≡ pack (receive (x .body) (view t) s r x) ⌝ }
+{
+    let body = x.body;
+    match body {
+        Body::Request => answer(t, s, r, x),
+        Body::Yes => land(t, r, x),
+        Body::No => land(t, r, x),
+        Body::NoBecause(_) => land(t, r, x),
+    }
+}
+
+pub fn deliver_oldest(t: Tables, s: usize, r: usize) -> Answered
+    requires { ⌜ Ready t × (s < t .count) × (s < maxPartitions) × (r < t .count) × (r < maxPartitions) ⌝ }
+    ensures { λ a. ⌜ a ≡ stored t (deliverOldest (view t) s r (queue (view t) s r)) ⌝ }
+{
+    let own = queues::queue(t, s, r);
+    if 0 < own.count {} else {
+        return refused(t, Refusal::QueueEmpty);
+    }
+    let x = own.items[0];
+    let taken = queues::take_oldest(t, s, r);
+    let done = receive(taken, s, r, x);
+    accepted(done, x.number, Reply::None)
+}
+
+// Sender and receiver are there.
+pub fn deliver_there(t: Tables, s: usize, r: usize) -> Answered
+    requires { ⌜ Ready t × (s < t .count) × (s < maxPartitions) × (r < t .count) × (r < maxPartitions) ⌝ }
+    ensures { λ a. ⌜ a ≡ stored t (deliver (view t) s r) ⌝ }
+{
+    let own = t.partitions[r];
+    if own.up {} else {
+        return refused(t, Refusal::Down);
+    }
+    deliver_oldest(t, s, r)
+}
+
+pub fn are_there(n: usize, s: u32, r: u32) -> bool
+    ensures { λ b. ⌜ b ≡ (ltb s n && ltb r n) ⌝ }
+{
+    if n <= s as usize {
+        return false;
+    }
+    (r as usize) < n
+}
+
+pub fn deliver_in_order(t: Tables, s: u32, r: u32) -> Answered
+    requires { ⌜ Ready t ⌝ }
+    ensures { λ a. ⌜ a ≡ stored t (deliver (view t) s r) ⌝ }
+{
+    if are_there(t.count, s, r) {} else {
+        return refused(t, Refusal::OutOfRange);
+    }
+    let from = s as usize;
+    let to = r as usize;
+    deliver_there(t, from, to)
+}

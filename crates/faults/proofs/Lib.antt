@@ -1,0 +1,2 @@
+pub mod Loses
+pub mod Faulty

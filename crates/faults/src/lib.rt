@@ -1,0 +1,119 @@
+// Cut, crash, recover and open (document 01, 'The nine events', 6 to 9).
+ghost use mathlib.Core.Bool.{false, _&&_};
+ghost use mathlib.Core.Path.{_≡_};
+ghost use Prim.Native.Nat.{_<_};
+ghost use lib.Dec.{eqb, leb};
+ghost use Rattle.protocol.specs.Bounds.{maxPartitions};
+ghost use Rattle.protocol.specs.Faults.{crash, cut, recover};
+ghost use Rattle.tables.specs.View.{view};
+ghost use Rattle.answers.specs.Called.{Ready, stored};
+use crate::losses::Loss;
+use answers::Answered;
+use answers::accepted;
+use answers::is_there;
+use answers::refused;
+use protocol::Refusal;
+use protocol::Reply;
+use tables::MAX_PARTITIONS;
+use tables::Tables;
+use tables::stores;
+
+pub mod losses;
+
+// ---- cut
+
+// Both partitions are there, and they are two.
+pub fn cut_there(t: Tables, a: usize, b: usize) -> Answered
+    requires { ⌜ Ready t × (a < t .count) × (b < t .count) × (a < maxPartitions) × (b < maxPartitions) × (eqb a b ≡ false) ⌝ }
+    ensures { λ x. ⌜ x ≡ stored t (cut (view t) a b) ⌝ }
+{
+    let x = t.partitions[a];
+    if x.up {} else {
+        return refused(t, Refusal::Down);
+    }
+    let y = t.partitions[b];
+    if y.up {} else {
+        return refused(t, Refusal::Down);
+    }
+    let loss = Loss::Cut(a, b);
+    let lost = losses::lose(loss, t);
+    accepted(lost, 0, Reply::None)
+}
+
+pub fn cut_in_order(t: Tables, a: u32, b: u32) -> Answered
+    requires { ⌜ Ready t ⌝ }
+    ensures { λ x. ⌜ x ≡ stored t (cut (view t) a b) ⌝ }
+{
+    if is_there(t.count, a) {} else {
+        return refused(t, Refusal::OutOfRange);
+    }
+    if is_there(t.count, b) {} else {
+        return refused(t, Refusal::OutOfRange);
+    }
+    if a == b {
+        return refused(t, Refusal::CutFromItself);
+    }
+    cut_there(t, a as usize, b as usize)
+}
+
+// ---- crash
+
+pub fn crash_there(t: Tables, p: usize) -> Answered
+    requires { ⌜ Ready t × (p < t .count) × (p < maxPartitions) ⌝ }
+    ensures { λ x. ⌜ x ≡ stored t (crash (view t) p) ⌝ }
+{
+    let x = t.partitions[p];
+    if x.up {} else {
+        return refused(t, Refusal::Down);
+    }
+    let loss = Loss::Crash(p);
+    let lost = losses::lose(loss, t);
+    let down = stores::with_up(lost, p, false);
+    accepted(down, 0, Reply::None)
+}
+
+pub fn crash_in_order(t: Tables, p: u32) -> Answered
+    requires { ⌜ Ready t ⌝ }
+    ensures { λ x. ⌜ x ≡ stored t (crash (view t) p) ⌝ }
+{
+    if is_there(t.count, p) {} else {
+        return refused(t, Refusal::OutOfRange);
+    }
+    crash_there(t, p as usize)
+}
+
+// ---- recover
+
+pub fn recover_there(t: Tables, p: usize) -> Answered
+    requires { ⌜ Ready t × (p < t .count) × (p < maxPartitions) ⌝ }
+    ensures { λ x. ⌜ x ≡ stored t (recover (view t) p) ⌝ }
+{
+    let x = t.partitions[p];
+    if x.up {
+        return refused(t, Refusal::IsUp);
+    }
+    let up = stores::with_up(t, p, true);
+    accepted(up, 0, Reply::None)
+}
+
+pub fn recover_in_order(t: Tables, p: u32) -> Answered
+    requires { ⌜ Ready t ⌝ }
+    ensures { λ x. ⌜ x ≡ stored t (recover (view t) p) ⌝ }
+{
+    if is_there(t.count, p) {} else {
+        return refused(t, Refusal::OutOfRange);
+    }
+    recover_there(t, p as usize)
+}
+
+// ---- open
+
+// Whether there may be k partitions.
+pub fn is_count(k: u32) -> bool
+    ensures { λ r. ⌜ r ≡ (leb 1 k && leb k maxPartitions) ⌝ }
+{
+    if 1 <= k {} else {
+        return false;
+    }
+    k <= MAX_PARTITIONS as u32
+}
