@@ -1,30 +1,36 @@
 -- The ways through the search for the first accepted step, in plain variables.
-use mathlib.Core.Bool.{Bool, false, true}
+use mathlib.Core.Bool.{Bool, false, not, true}
 use mathlib.Core.List.{List, [], _∷_, map}
 use mathlib.Core.Path.{_∙_, _≡_, ap, refl, sym}
-use Prim.Native.Nat.{_+_, _<_, _≤_, ℕ}
+use Prim.Native.Nat.{_*_, _+_, _<_, _≤_, suc, zero, ℕ}
 use native.Mathlib.Omega.{arith}
-use lib.ListN.{getD, length}
+use lib.Dec.{eqb}
+use lib.ListN.{getD, length, take}
 use lib.Seq.{getD-take}
-use Rattle.lists.specs.Lists.{each}
+use Rattle.lists.specs.Lists.{each, isSome, pick}
 use Rattle.lists.proofs.Tests.{byTest, no-true}
 use Rattle.protocol.specs.Advance.{advance}
-use Rattle.protocol.specs.Answers.{accepted}
-use Rattle.protocol.specs.Bounds.{maxPartitions, maxRecords}
-use Rattle.protocol.specs.Deliver.{deliver}
+use Rattle.protocol.specs.Answers.{accepted, check}
+use Rattle.protocol.specs.Bounds.{maxMessages, maxPartitions, maxRecords, queueCount}
+use Rattle.protocol.specs.Deliver.{deliver, deliverOldest}
 use Rattle.protocol.specs.Elements.{isAccepted}
 use Rattle.protocol.specs.Events.{Advancing, Delivering, Event, bare}
 use Rattle.protocol.specs.Settle.{Found, advances, candidates, deliveries, firstAccepted, found, nothing}
-use Rattle.protocol.specs.Tables.{partition, partitionCount, Partition as Part}
+use Rattle.protocol.specs.Tables.{Model, partition, partitionCount, queue, Partition as Part}
+use Rattle.protocol.specs.declared.Message.{Message}
 use Rattle.protocol.specs.declared.Record.{Record}
-use Rattle.tables.specs.Slots.{noRecord}
-use Rattle.tables.specs.View.{Sized, partitionAt, recordsOf, view}
+use Rattle.tables.specs.Slots.{freeMessage, noRecord}
+use Rattle.tables.specs.View.{Sized, partitionAt, queueAt, recordsOf, view}
 use Rattle.tables.specs.declared.Partition.{Partition}
+use Rattle.tables.specs.declared.Queue.{Queue}
 use Rattle.tables.specs.declared.Records.{Records}
 use Rattle.tables.specs.declared.Tables.{Tables}
 use Rattle.answers.specs.declared.Answered.{Answered}
 use Rattle.answers.specs.Called.{Ready, stored}
-use Rattle.answers.proofs.Ways.{read-count, read-four, read-records, read-view, ready-view}
+use Rattle.answers.proofs.Ways.{read-count, read-four, read-records, read-up, read-view, ready-there, ready-view}
+use Rattle.lists.proofs.Tidies.{tidy-fits}
+use Rattle.tables.proofs.Packs.{shaped-all}
+use Rattle.tables.proofs.Views.{queue-view}
 use Rattle.settle.specs.Settled.{LogOf, Step, advancesOf, deliveriesFrom, stayed, stepOf, tried}
 use Rattle.settle.proofs.First.{each-found, each-missed, each-none, first-kept, first-one, first-past, first-refused, map-each}
 
@@ -158,10 +164,17 @@ module _ (t : Tables) (z : Sized t) (r : Ready t) where
   unfolding advances advancesOf
   logs-done i w s a b h = all-done (advancesOf (view t)) i w s a b h
 
-  pub receivers-here : (p i : ℕ) → Trying t (receivers p) i → (s : Step) → i < t .count → s ≡ stepOf t (firstAccepted bare (view t) (Delivering p i ∷ [])) → s .moved ≡ true
-      → s ≡ stepOf t (firstAccepted bare (view t) (deliveriesFrom (view t) p))
-  unfolding deliveriesFrom
-  receivers-here p i w s k h f = all-here (receivers p) i w s k h f
+  module _ (p i : ℕ) (w : Trying t (receivers p) i) (b : Bool) (e : b ≡ accepted (deliver (view t) p i)) where
+    pub receivers-next : b ≡ false → Trying t (receivers p) (i + 1)
+    unfolding bare
+    receivers-next f = record { none = each-missed bare (view t) (receivers p) i (w .none) (first-refused bare (view t) (Delivering p i) (sym e ∙ f)) }
+
+    pub receivers-here : b ≡ true → i < t .count → (s : Step) → s ≡ stepOf t (firstAccepted bare (view t) (Delivering p i ∷ []))
+        → s ≡ stepOf t (firstAccepted bare (view t) (deliveriesFrom (view t) p))
+    unfolding bare deliveriesFrom
+    receivers-here f k s h =
+        let q : firstAccepted bare (view t) (Delivering p i ∷ []) ≡ found (Delivering p i) = first-one bare (view t) (Delivering p i) (sym e ∙ f) in
+        h ∙ ap (stepOf t) (q ∙ sym (each-found bare (view t) (receivers p) (partitionCount (view t)) i _ (rw (ready-view t z r) k) (w .none) q))
 
   pub receivers-done : (p i : ℕ) → Trying t (receivers p) i → (s : Step) → i ≤ t .count → t .count ≤ i → s ≡ stayed t → s ≡ stepOf t (firstAccepted bare (view t) (deliveriesFrom (view t) p))
   unfolding deliveriesFrom
@@ -176,6 +189,38 @@ module _ (t : Tables) (z : Sized t) (r : Ready t) where
   unfolding deliveries deliveriesFrom
   senders-done i w s a b h = all-done (deliveriesFrom (view t)) i w s a b h
 
+-- ---- whether a message from p waits for q, which was read as x
+
+oldest-some : (m : Model) (p q : ℕ) (l : List Message) → accepted (deliverOldest m p q l) ≡ isSome l
+oldest-some m p q [] = refl
+oldest-some m p q (x ∷ l) = refl
+
+some-counted : (n : ℕ) (l : List Message) → n ≤ length l → isSome (take n l) ≡ not (eqb n 0)
+some-counted zero l h = refl
+some-counted (suc n) [] h = absurd (omega arith)
+some-counted (suc n) (x ∷ l) h = refl
+
+module _ (t : Tables) (z : Sized t) (r : Ready t) (p q : ℕ) (hp : p < t .count) (hq : q < t .count) (x : Partition) (e : x ≡ partitionAt t q) where
+  awaited : accepted (deliver (view t) p q) ≡ pick (x .up) (isSome (queue (view t) p q)) false
+  unfolding deliver check
+  awaited =
+      byTest (x .up)
+      (λ f. rw (ready-there t p z r hp, ready-there t q z r hq, read-up t q z r hq x e, f) (oldest-some (view t) p q (queue (view t) p q)))
+      (λ f. rw (ready-there t p z r hp, ready-there t q z r hq, read-up t q z r hq x e, f) refl)
+
+  pub awaits-down : x .up ≡ false → false ≡ accepted (deliver (view t) p q)
+  awaits-down f = sym (awaited ∙ rw f refl)
+
+  pub awaits-up : x .up ≡ true → (y : Queue) → y ≡ queueAt t (p * maxPartitions + q) → (b : Bool) → b ≡ not (eqb (y .count) 0) → b ≡ accepted (deliver (view t) p q)
+  awaits-up f y v b h =
+      let k : p * maxPartitions + q < queueCount = let i = read-four t p z r hp in let j = read-four t q z r hq in omega arith in
+      let c : queueAt t (p * maxPartitions + q) .count ≤ maxMessages =
+      tidy-fits maxMessages freeMessage _ (queueAt t (p * maxPartitions + q) .items) true (sym (shaped-all t z (r .shaped) .queue (p * maxPartitions + q) k)) refl
+      in
+      let l : y .count ≤ length (y .items) = rw v (rw (z .queue (p * maxPartitions + q) k) c) in
+      let s : isSome (queue (view t) p q) ≡ not (eqb (y .count) 0) = rw (queue-view t p q, ← v) (some-counted (y .count) (y .items) l) in
+      h ∙ sym s ∙ sym (awaited ∙ rw f refl)
+
 -- ---- advances, then deliveries
 
 module _ (t : Tables) (a : Step) (h : a ≡ stepOf t (firstAccepted bare (view t) (advances (view t)))) where
@@ -188,8 +233,10 @@ module _ (t : Tables) (a : Step) (h : a ≡ stepOf t (firstAccepted bare (view t
 
 pub ruleset tries = (advance-tried, delivery-tried, tried-accepted, tried-refused)
 
+pub ruleset awaitings = (awaits-down, awaits-up)
+
 pub ruleset log-tries = (log-there, log-four, trying-start, log-below, log-next, log-here, log-done)
 
-pub ruleset all-tries = (turn-four, trying-start, trying-next, logs-here, logs-done, receivers-here, receivers-done, senders-here, senders-done)
+pub ruleset all-tries = (turn-four, trying-start, trying-next, logs-here, logs-done, receivers-next, receivers-here, receivers-done, senders-here, senders-done)
 
 pub ruleset step-tries = (step-advances, step-delivers)

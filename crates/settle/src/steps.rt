@@ -2,7 +2,9 @@
 ghost use mathlib.Core.List.{[], _∷_};
 ghost use mathlib.Core.Path.{_≡_};
 ghost use Prim.Native.Nat.{_<_};
+ghost use Rattle.protocol.specs.Answers.{accepted};
 ghost use Rattle.protocol.specs.Bounds.{maxPartitions};
+ghost use Rattle.protocol.specs.Deliver.{deliver};
 ghost use Rattle.protocol.specs.Events.{Advancing, Delivering, bare};
 ghost use Rattle.protocol.specs.Settle.{advances, candidates, deliveries, firstAccepted};
 ghost use Rattle.tables.specs.View.{view};
@@ -10,6 +12,7 @@ ghost use Rattle.answers.specs.Called.{Ready};
 ghost use Rattle.settle.specs.Settled.{LogOf, advancesOf, deliveriesFrom, stayed, stepOf, tried};
 use crate::Step;
 use answers::Answered;
+use answers::queues;
 use protocol::Reply;
 use tables::Records;
 use tables::Tables;
@@ -93,7 +96,20 @@ fn first_advance(t: Tables) -> Step
     stay(t)
 }
 
-fn try_delivery(t: Tables, s: usize, r: usize) -> Step
+// Whether a message from s waits, and r is up to receive it. Most do not: so nothing is tried that would be refused.
+fn awaits(t: Tables, s: usize, r: usize) -> bool
+    requires { ⌜ Ready t × (s < t .count) × (s < maxPartitions) × (r < t .count) × (r < maxPartitions) ⌝ }
+    ensures { λ b. ⌜ b ≡ accepted (deliver (view t) s r) ⌝ }
+{
+    let y = t.partitions[r];
+    if y.up {} else {
+        return false;
+    }
+    let q = queues::queue(t, s, r);
+    q.count != 0
+}
+
+fn take_delivery(t: Tables, s: usize, r: usize) -> Step
     requires { ⌜ Ready t × (s < t .count) × (s < maxPartitions) × (r < t .count) × (r < maxPartitions) ⌝ }
     ensures { λ a. ⌜ a ≡ stepOf t (firstAccepted bare (view t) (Delivering s r ∷ [])) ⌝ }
 {
@@ -107,10 +123,8 @@ fn first_delivery_from(t: Tables, s: usize) -> Step
 {
     let mut r: usize = 0;
     while r < t.count {
-        let a = try_delivery(t, s, r);
-        let moved = a.moved;
-        if moved {
-            return a;
+        if awaits(t, s, r) {
+            return take_delivery(t, s, r);
         }
         r += 1;
     }

@@ -1,8 +1,8 @@
 use Rattle.settle.proofs.Tried.{tries}
 use Rattle.tables.proofs.Known.{sized}
 use borrow.Author.Needs.{needs}
-use Rattle.settle.proofs.steps.try_delivery.Statement.{statement}
-use Rattle.settle.proofs.steps.try_delivery.Tie as tie
+use Rattle.settle.proofs.steps.take_delivery.Statement.{statement}
+use Rattle.settle.proofs.steps.take_delivery.Tie as tie
 use Rattle.settle.proofs.steps.tried.Reads as tried-reads
 
 deliver-there-requires : tie.Need-deliver-there-requires
@@ -14,5 +14,5 @@ tried-requires c κs = search (tries, sized, needs)
 returns : tie.Need-returns
 returns c = search (tries, sized, needs)
 
-pub try-delivery-spec : {M : Type 1} → statement M
-try-delivery-spec = tie.close (tie.spec deliver-there-requires tried-requires returns)
+pub take-delivery-spec : {M : Type 1} → statement M
+take-delivery-spec = tie.close (tie.spec deliver-there-requires tried-requires returns)
