@@ -78,7 +78,7 @@ fn finish(k: Kept, out: &mut [u8]) -> usize
     place
 }
 
-// A whole rehearsal: the schedule from the open file, its answers to standard output.
+// A whole rehearsal: the schedule from the open file, its answers to standard output. What a file holds no contract can say.
 // A proved loop has to end, and nothing says that the input does: no run takes so many turns.
 pub fn run(fd: i32) {
     let mut bytes = io::buffer();
