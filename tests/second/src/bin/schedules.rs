@@ -2,10 +2,12 @@
 //! program on COUNT schedules from that seed on and compares its output with this package's,
 //! which asserts demand 3 after every event as it goes.
 //!
-//! The gate runs a fixed part of this. A longer run, of seeds that the gate does not see, by
-//! one command from the root of the repository (a million takes an hour or two):
-//! `cargo run --release --offline --manifest-path tests/second/Cargo.toml --target-dir
-//! target/cargo --bin schedules -- 1000000 1000000 target/bin/rehearse`
+//! The gate runs seeds 1 to 20,000. A longer run, of a million that the gate does not see, takes
+//! an hour or two and is one command from the root of the repository:
+//!
+//! ```sh
+//! cargo run --release --offline --manifest-path tests/second/Cargo.toml --bin schedules -- 1000000 1000000 target/bin/rehearse
+//! ```
 
 use std::env;
 use std::ffi::{OsStr, OsString};
