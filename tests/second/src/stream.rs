@@ -115,3 +115,13 @@ pub fn answers(input: &[u8]) -> Vec<u8> {
     rehearse(&mut &input[..], &mut output, false).expect("memory neither ends nor closes");
     output
 }
+
+/// The same with demand 3 asserted after every event; else what is broken.
+pub fn checked_answers(input: &[u8]) -> Result<Vec<u8>, String> {
+    let mut output = Vec::new();
+    match rehearse(&mut &input[..], &mut output, true) {
+        Ok(()) => Ok(output),
+        Err(Stop::Broken(what)) => Err(what),
+        Err(Stop::Input(_) | Stop::Output(_)) => unreachable!("memory neither ends nor closes"),
+    }
+}

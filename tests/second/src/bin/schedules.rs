@@ -1,5 +1,13 @@
 //! `schedules SEED` writes the schedule of that seed. `schedules SEED COUNT PROGRAM` runs the
-//! program on COUNT schedules from that seed on and compares its output with this package's.
+//! program on COUNT schedules from that seed on and compares its output with this package's,
+//! which asserts demand 3 after every event as it goes.
+//!
+//! The gate runs seeds 1 to 20,000. A longer run, of a million that the gate does not see, takes
+//! an hour or two and is one command from the root of the repository:
+//!
+//! ```sh
+//! cargo run --release --offline --manifest-path tests/second/Cargo.toml --bin schedules -- 1000000 1000000 target/bin/rehearse
+//! ```
 
 use std::env;
 use std::ffi::{OsStr, OsString};
@@ -8,10 +16,10 @@ use std::process::{Command, ExitCode, Output, Stdio};
 use std::thread;
 
 use second::schedule::schedule;
-use second::stream::answers;
+use second::stream::checked_answers;
 
 /// How many differences are shown in full.
-const SHOWN: u64 = 10;
+const SHOWN: usize = 10;
 
 fn main() -> ExitCode {
     let arguments: Vec<OsString> = env::args_os().skip(1).collect();
@@ -36,24 +44,68 @@ fn main() -> ExitCode {
 
 /// True if the program answers every schedule as this package does.
 fn compare(first: u64, count: u64, program: &OsStr) -> io::Result<bool> {
-    let mut lines = 0;
-    let mut differences = 0;
-    for seed in (0..count).map(|place| first.wrapping_add(place)) {
-        let text = schedule(seed);
-        let wanted = answers(&text);
-        lines += wanted.iter().filter(|byte| **byte == b'\n').count();
-        let Output { status, stdout, .. } = run(program, &text)?;
-        if stdout != wanted || !status.success() {
-            differences += 1;
-            if differences <= SHOWN {
-                println!("seed {seed}: {status}");
-                show(&wanted, &stdout);
-            }
-        }
+    let workers = thread::available_parallelism().map_or(1, |number| number.get() as u64);
+    let parts: io::Result<Vec<Found>> = thread::scope(|scope| {
+        let started: Vec<_> = (0..workers)
+            .map(|worker| {
+                let places = (worker..count).step_by(workers as usize);
+                scope.spawn(move || compare_some(first, places, program))
+            })
+            .collect();
+        let ended = started.into_iter().map(|worker| worker.join());
+        ended.map(|part| part.expect("no worker panics")).collect()
+    });
+    let parts = parts?;
+    let lines: usize = parts.iter().map(|part| part.lines).sum();
+    let mut differences: Vec<_> = parts
+        .into_iter()
+        .flat_map(|part| part.differences)
+        .collect();
+    differences.sort();
+    for (_, text) in differences.iter().take(SHOWN) {
+        println!("{text}");
     }
     let last = first.wrapping_add(count).wrapping_sub(1);
-    println!("seeds {first} to {last}: {count} schedules, {lines} lines, {differences} differ");
-    Ok(differences == 0)
+    let differ = differences.len();
+    println!("seeds {first} to {last}: {count} schedules, {lines} lines, {differ} differ");
+    Ok(differ == 0)
+}
+
+/// What a worker found: how many lines it compared, and in which places what differs.
+#[derive(Default)]
+struct Found {
+    lines: usize,
+    differences: Vec<(u64, String)>,
+}
+
+fn compare_some(
+    first: u64,
+    places: impl Iterator<Item = u64>,
+    program: &OsStr,
+) -> io::Result<Found> {
+    let mut found = Found::default();
+    for place in places {
+        let seed = first.wrapping_add(place);
+        let text = schedule(seed);
+        let wanted = match checked_answers(&text) {
+            Ok(wanted) => wanted,
+            Err(what) => {
+                let what = format!("seed {seed}: demand 3 is broken: {what}");
+                found.differences.push((place, what));
+                continue;
+            }
+        };
+        found.lines += wanted.iter().filter(|byte| **byte == b'\n').count();
+        let Output { status, stdout, .. } = run(program, &text)?;
+        if stdout != wanted || !status.success() {
+            let what = format!(
+                "seed {seed}: {status}{}",
+                first_difference(&wanted, &stdout)
+            );
+            found.differences.push((place, what));
+        }
+    }
+    Ok(found)
 }
 
 fn run(program: &OsStr, text: &[u8]) -> io::Result<Output> {
@@ -70,19 +122,18 @@ fn run(program: &OsStr, text: &[u8]) -> io::Result<Output> {
 }
 
 /// The first line in which the two outputs differ.
-fn show(wanted: &[u8], given: &[u8]) {
+fn first_difference(wanted: &[u8], given: &[u8]) -> String {
     let mut wanted = wanted.split_inclusive(|byte| *byte == b'\n');
     let mut given = given.split_inclusive(|byte| *byte == b'\n');
     loop {
         let (one, other) = (wanted.next(), given.next());
         if one.is_none() && other.is_none() {
-            break;
+            return String::new();
         }
         if one != other {
             let text =
                 |line: Option<&[u8]>| String::from_utf8_lossy(line.unwrap_or(b"")).into_owned();
-            println!("  wanted {:?}, given {:?}", text(one), text(other));
-            break;
+            return format!("\n  wanted {:?}, given {:?}", text(one), text(other));
         }
     }
 }
