@@ -19,8 +19,7 @@ use Rattle.tables.specs.declared.Queue.{Queue}
 use Rattle.tables.specs.declared.Records.{Records}
 use Rattle.tables.specs.declared.Tables.{Tables}
 use Rattle.answers.specs.Called.{Ready}
-use Rattle.answers.specs.Layers.{Loss}
-use Rattle.faults.specs.Lost.{emptiesOf, relapsesOf}
+use Rattle.faults.specs.Lost.{Loss, emptiesOf, relapsesOf}
 use Rattle.lists.proofs.Keep.{length-mapFrom, length-mapIf}
 use Rattle.tables.proofs.Packs.{pack-view, partition-pack, partition-unpack, shaped-all}
 use Rattle.lists.proofs.Mapped.{Mapping, map-mapFrom, mapIf-from, mapping-all, mapping-end, mapping-keep, mapping-start, mapping-turn}
