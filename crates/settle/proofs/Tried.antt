@@ -7,6 +7,7 @@ use native.Mathlib.Omega.{arith}
 use lib.Dec.{eqb}
 use lib.ListN.{getD, length, take}
 use lib.Seq.{getD-take}
+use borrow.Author.Tests.{ne-eqb}
 use Rattle.lists.specs.Lists.{each, isSome, pick}
 use Rattle.lists.proofs.Tests.{byTest, no-true}
 use Rattle.protocol.specs.Advance.{advance}
@@ -198,7 +199,7 @@ oldest-some m p q (x ∷ l) = refl
 some-counted : (n : ℕ) (l : List Message) → n ≤ length l → isSome (take n l) ≡ not (eqb n 0)
 some-counted zero l h = refl
 some-counted (suc n) [] h = absurd (omega arith)
-some-counted (suc n) (x ∷ l) h = refl
+some-counted (suc n) (x ∷ l) h = rw (ne-eqb (suc n) 0 (λ e. let k : 0 ≡ suc n = sym e in omega arith)) refl
 
 module _ (t : Tables) (z : Sized t) (r : Ready t) (p q : ℕ) (hp : p < t .count) (hq : q < t .count) (x : Partition) (e : x ≡ partitionAt t q) where
   awaited : accepted (deliver (view t) p q) ≡ pick (x .up) (isSome (queue (view t) p q)) false
