@@ -36,7 +36,7 @@ use tables::reads;
 use tables::stores;
 use tables::writes;
 
-pub mod next;
+mod next;
 
 // ---- what is made of a record
 
@@ -56,7 +56,7 @@ pub fn in_stage(stage: Stage, r: Record) -> Record
     }
 }
 
-pub fn turned(r: Record) -> Record
+fn turned(r: Record) -> Record
     ensures { λ a. ⌜ a ≡ turned r ⌝ }
 {
     let kind = Kind::Unlink;
@@ -73,7 +73,7 @@ pub fn turned(r: Record) -> Record
     }
 }
 
-pub fn request_of(r: Record) -> Message
+fn request_of(r: Record) -> Message
     ensures { λ a. ⌜ a ≡ messageOf Request r ⌝ }
 {
     let body = Body::Request;
@@ -90,7 +90,7 @@ pub fn request_of(r: Record) -> Message
     }
 }
 
-pub fn entry_of(r: Record) -> Entry
+fn entry_of(r: Record) -> Entry
     ensures { λ a. ⌜ a ≡ entryOf r ⌝ }
 {
     let name = r.name;
@@ -105,7 +105,7 @@ pub fn entry_of(r: Record) -> Entry
 
 // ---- the steps of partition p's record r, which stands at place i
 
-pub fn close(t: Tables, p: usize, i: usize, r: Record, reply: Reply) -> Answered
+fn close(t: Tables, p: usize, i: usize, r: Record, reply: Reply) -> Answered
     requires { ⌜ Ready t × OpenAt t p i r ⌝ }
     ensures { λ a. ⌜ a ≡ stored t (perform (view t) p r (Closes reply)) ⌝ }
 {
@@ -116,7 +116,7 @@ pub fn close(t: Tables, p: usize, i: usize, r: Record, reply: Reply) -> Answered
     accepted(closed, r.number, reply)
 }
 
-pub fn turn(t: Tables, p: usize, i: usize, r: Record) -> Answered
+fn turn(t: Tables, p: usize, i: usize, r: Record) -> Answered
     requires { ⌜ Ready t × OpenAt t p i r ⌝ }
     ensures { λ a. ⌜ a ≡ stored t (perform (view t) p r Turns) ⌝ }
 {
@@ -128,7 +128,7 @@ pub fn turn(t: Tables, p: usize, i: usize, r: Record) -> Answered
     accepted(done, r.number, Reply::NameTaken)
 }
 
-pub fn enter(t: Tables, p: usize, i: usize, r: Record) -> Answered
+fn enter(t: Tables, p: usize, i: usize, r: Record) -> Answered
     requires { ⌜ Ready t × OpenAt t p i r × (Enters ≡ next (partition (view t) p) r) ⌝ }
     ensures { λ a. ⌜ a ≡ stored t (perform (view t) p r Enters) ⌝ }
 {
@@ -140,7 +140,7 @@ pub fn enter(t: Tables, p: usize, i: usize, r: Record) -> Answered
     accepted(done, r.number, Reply::Done)
 }
 
-pub fn take_out(t: Tables, p: usize, i: usize, r: Record) -> Answered
+fn take_out(t: Tables, p: usize, i: usize, r: Record) -> Answered
     requires { ⌜ Ready t × OpenAt t p i r × (TakesOut ≡ next (partition (view t) p) r) ⌝ }
     ensures { λ a. ⌜ a ≡ stored t (perform (view t) p r TakesOut) ⌝ }
 {
@@ -159,7 +159,7 @@ pub fn take_out(t: Tables, p: usize, i: usize, r: Record) -> Answered
 }
 
 // The record in another stage, in its place.
-pub fn staged(t: Tables, p: usize, i: usize, r: Record, stage: Stage) -> Tables
+fn staged(t: Tables, p: usize, i: usize, r: Record, stage: Stage) -> Tables
     requires { ⌜ Ready t × OpenAt t p i r ⌝ }
     ensures { λ u. ⌜ u ≡ pack (setStage (view t) p (r .number) stage) ⌝ }
 {
@@ -171,7 +171,7 @@ pub fn staged(t: Tables, p: usize, i: usize, r: Record, stage: Stage) -> Tables
 }
 
 // The object's partition q is up.
-pub fn send_request(t: Tables, p: usize, i: usize, r: Record, q: usize) -> Answered
+fn send_request(t: Tables, p: usize, i: usize, r: Record, q: usize) -> Answered
     requires { ⌜ Ready t × OpenAt t p i r × SendsTo t p r q ⌝ }
     ensures { λ a. ⌜ a ≡ stored t (accept (r .number) None (send (setStage (view t) p (r .number) Sent) p (r .partition) (messageOf Request r))) ⌝ }
 {
@@ -182,7 +182,7 @@ pub fn send_request(t: Tables, p: usize, i: usize, r: Record, q: usize) -> Answe
     accepted(done, r.number, Reply::None)
 }
 
-pub fn send_if_up(t: Tables, p: usize, i: usize, r: Record, q: usize) -> Answered
+fn send_if_up(t: Tables, p: usize, i: usize, r: Record, q: usize) -> Answered
     requires { ⌜ Ready t × OpenAt t p i r × SendsTo t p r q ⌝ }
     ensures { λ a. ⌜ a ≡ stored t (perform (view t) p r Sends) ⌝ }
 {
@@ -193,7 +193,7 @@ pub fn send_if_up(t: Tables, p: usize, i: usize, r: Record, q: usize) -> Answere
     send_request(t, p, i, r, q)
 }
 
-pub fn send(t: Tables, p: usize, i: usize, r: Record) -> Answered
+fn send(t: Tables, p: usize, i: usize, r: Record) -> Answered
     requires { ⌜ Ready t × OpenAt t p i r × (Sends ≡ next (partition (view t) p) r) ⌝ }
     ensures { λ a. ⌜ a ≡ stored t (perform (view t) p r Sends) ⌝ }
 {
@@ -201,7 +201,7 @@ pub fn send(t: Tables, p: usize, i: usize, r: Record) -> Answered
     send_if_up(t, p, i, r, q)
 }
 
-pub fn perform(t: Tables, p: usize, i: usize, r: Record, step: Next) -> Answered
+fn perform(t: Tables, p: usize, i: usize, r: Record, step: Next) -> Answered
     requires { ⌜ Ready t × OpenAt t p i r × (step ≡ next (partition (view t) p) r) ⌝ }
     ensures { λ a. ⌜ a ≡ stored t (perform (view t) p r step) ⌝ }
 {
@@ -217,7 +217,7 @@ pub fn perform(t: Tables, p: usize, i: usize, r: Record, step: Next) -> Answered
 
 // ---- the event: partition p's record under this number
 
-pub fn advance_record(t: Tables, p: usize, i: usize) -> Answered
+fn advance_record(t: Tables, p: usize, i: usize) -> Answered
     requires { ⌜ Ready t × (p < t .count) × (p < maxPartitions) × (i < partitionAt t p .records .count) × (i < maxRecords) ⌝ }
     ensures { λ a. ⌜ a ≡ stored t (advanceFound (view t) p (getD (partitionAt t p .records .items) i noRecord ∷ [])) ⌝ }
 {
@@ -229,7 +229,7 @@ pub fn advance_record(t: Tables, p: usize, i: usize) -> Answered
     perform(t, p, i, r, step)
 }
 
-pub fn advance_up(t: Tables, p: usize, number: u32) -> Answered
+fn advance_up(t: Tables, p: usize, number: u32) -> Answered
     requires { ⌜ Ready t × (p < t .count) × (p < maxPartitions) ⌝ }
     ensures { λ a. ⌜ a ≡ stored t (advanceFound (view t) p (keep (recordBears number) (partition (view t) p .records))) ⌝ }
 {

@@ -36,7 +36,7 @@ use tables::stores;
 use tables::writes;
 
 // Whether partition p of n, directory d and object o of partition q are there.
-pub fn ask_in_range(n: usize, p: u32, d: u32, q: u32, o: u32) -> bool
+fn ask_in_range(n: usize, p: u32, d: u32, q: u32, o: u32) -> bool
     ensures { λ r. ⌜ r ≡ askInRange n p d q o ⌝ }
 {
     if n <= p as usize {
@@ -51,7 +51,7 @@ pub fn ask_in_range(n: usize, p: u32, d: u32, q: u32, o: u32) -> bool
     o < OBJECTS as u32
 }
 
-pub fn is_free(l: Entries, directory: u8, name: Name) -> bool
+fn is_free(l: Entries, directory: u8, name: Name) -> bool
     requires { ⌜ l .count ≤ maxEntries ⌝ }
     ensures { λ r. ⌜ r ≡ isNone (keep (standsUnder directory name) (entriesOf l)) ⌝ }
 {
@@ -62,7 +62,7 @@ pub fn is_free(l: Entries, directory: u8, name: Name) -> bool
     }
 }
 
-pub fn asked_record(
+fn asked_record(
     kind: Kind,
     directory: u8,
     name: Name,
@@ -87,7 +87,7 @@ pub fn asked_record(
 // ---- link and create
 
 // The number is given, and the record opened.
-pub fn open_ask(kind: Kind, t: Tables, p: usize, d: u8, name: Name, q: u8, o: u8) -> Answered
+fn open_ask(kind: Kind, t: Tables, p: usize, d: u8, name: Name, q: u8, o: u8) -> Answered
     requires { ⌜ Ready t × (p < t .count) × (p < maxPartitions) × Opens t p ⌝ }
     ensures { λ r. ⌜ r ≡ stored t (openAsk kind (view t) p d name q o) ⌝ }
 {
@@ -102,7 +102,7 @@ pub fn open_ask(kind: Kind, t: Tables, p: usize, d: u8, name: Name, q: u8, o: u8
 }
 
 // The refusals that look into the tables of p.
-pub fn ask_tables(kind: Kind, t: Tables, p: usize, d: u8, name: Name, q: u8, o: u8) -> Answered
+fn ask_tables(kind: Kind, t: Tables, p: usize, d: u8, name: Name, q: u8, o: u8) -> Answered
     requires { ⌜ Ready t × (p < t .count) × (p < maxPartitions) ⌝ }
     ensures { λ r. ⌜ r ≡ stored t (askTables kind (view t) p d name q o) ⌝ }
 {
@@ -125,7 +125,7 @@ pub fn ask_tables(kind: Kind, t: Tables, p: usize, d: u8, name: Name, q: u8, o: 
 }
 
 // The arguments are in range.
-pub fn ask_placed(kind: Kind, t: Tables, p: u32, d: u32, name: Name, q: u32, o: u32) -> Answered
+fn ask_placed(kind: Kind, t: Tables, p: u32, d: u32, name: Name, q: u32, o: u32) -> Answered
     requires { ⌜ Ready t × Placed t p d q o ⌝ }
     ensures { λ r. ⌜ r ≡ stored t (ask kind (view t) p d name q o) ⌝ }
 {
@@ -143,7 +143,7 @@ pub fn ask_placed(kind: Kind, t: Tables, p: u32, d: u32, name: Name, q: u32, o: 
     ask_tables(kind, t, at, directory, name, partition, object)
 }
 
-pub fn ask_in_order(kind: Kind, t: Tables, p: u32, d: u32, name: Name, q: u32, o: u32) -> Answered
+fn ask_in_order(kind: Kind, t: Tables, p: u32, d: u32, name: Name, q: u32, o: u32) -> Answered
     requires { ⌜ Ready t ⌝ }
     ensures { λ r. ⌜ r ≡ stored t (ask kind (view t) p d name q o) ⌝ }
 {
@@ -165,7 +165,7 @@ pub fn ask(kind: Kind, t: Tables, p: u32, d: u32, name: Name, q: u32, o: u32) ->
 
 // ---- unlink
 
-pub fn is_unopened(l: Records, number: u32) -> bool
+fn is_unopened(l: Records, number: u32) -> bool
     requires { ⌜ l .count ≤ maxRecords ⌝ }
     ensures { λ r. ⌜ r ≡ isNone (keep (recordBears number) (recordsOf l)) ⌝ }
 {
@@ -176,7 +176,7 @@ pub fn is_unopened(l: Records, number: u32) -> bool
     }
 }
 
-pub fn unlink_record(e: Entry) -> Record
+fn unlink_record(e: Entry) -> Record
     ensures { λ r. ⌜ r ≡ unlinkOf e ⌝ }
 {
     let kind = Kind::Unlink;
@@ -193,7 +193,7 @@ pub fn unlink_record(e: Entry) -> Record
     }
 }
 
-pub fn open_unlink(t: Tables, p: usize, e: Entry) -> Answered
+fn open_unlink(t: Tables, p: usize, e: Entry) -> Answered
     requires { ⌜ Ready t × (p < t .count) × (p < maxPartitions) × (partitionAt t p .records .count < maxRecords) ⌝ }
     ensures { λ r. ⌜ r ≡ stored t (accept (e .number) None (openRecord (view t) p (unlinkOf e))) ⌝ }
 {
@@ -206,7 +206,7 @@ pub fn open_unlink(t: Tables, p: usize, e: Entry) -> Answered
 }
 
 // The entry that stands under the name.
-pub fn unlink_entry(t: Tables, p: usize, e: Entry) -> Answered
+fn unlink_entry(t: Tables, p: usize, e: Entry) -> Answered
     requires { ⌜ Ready t × (p < t .count) × (p < maxPartitions) ⌝ }
     ensures { λ r. ⌜ r ≡ stored t (unlinkFound (view t) p (e ∷ [])) ⌝ }
 {
@@ -221,7 +221,7 @@ pub fn unlink_entry(t: Tables, p: usize, e: Entry) -> Answered
     open_unlink(t, p, e)
 }
 
-pub fn unlink_tables(t: Tables, p: usize, d: u8, name: Name) -> Answered
+fn unlink_tables(t: Tables, p: usize, d: u8, name: Name) -> Answered
     requires { ⌜ Ready t × (p < t .count) × (p < maxPartitions) ⌝ }
     ensures { λ r. ⌜ r ≡ stored t (unlinkFound (view t) p (keep (standsUnder d name) (partition (view t) p .entries))) ⌝ }
 {
@@ -237,7 +237,7 @@ pub fn unlink_tables(t: Tables, p: usize, d: u8, name: Name) -> Answered
     }
 }
 
-pub fn in_directory(n: usize, p: u32, d: u32) -> bool
+fn in_directory(n: usize, p: u32, d: u32) -> bool
     ensures { λ r. ⌜ r ≡ inDirectory n p d ⌝ }
 {
     if n <= p as usize {
@@ -246,7 +246,7 @@ pub fn in_directory(n: usize, p: u32, d: u32) -> bool
     d < DIRECTORIES as u32
 }
 
-pub fn unlink_placed(t: Tables, p: u32, d: u32, name: Name) -> Answered
+fn unlink_placed(t: Tables, p: u32, d: u32, name: Name) -> Answered
     requires { ⌜ Ready t × PlacedIn t p d ⌝ }
     ensures { λ r. ⌜ r ≡ stored t (unlink (view t) p d name) ⌝ }
 {

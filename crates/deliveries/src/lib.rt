@@ -33,11 +33,11 @@ use tables::reads;
 use tables::stores;
 use tables::writes;
 
-pub mod verdict;
+mod verdict;
 
 // ---- a request from s, at the object's partition r
 
-pub fn answer_to(x: Message, body: Body) -> Message
+fn answer_to(x: Message, body: Body) -> Message
     ensures { λ a. ⌜ a ≡ answerTo x body ⌝ }
 {
     let kind = x.kind;
@@ -53,7 +53,7 @@ pub fn answer_to(x: Message, body: Body) -> Message
     }
 }
 
-pub fn backpointer_of(s: u8, x: Message) -> Backpointer
+fn backpointer_of(s: u8, x: Message) -> Backpointer
     ensures { λ b. ⌜ b ≡ backpointerOf s x ⌝ }
 {
     let name = x.name;
@@ -67,7 +67,7 @@ pub fn backpointer_of(s: u8, x: Message) -> Backpointer
 }
 
 // Without the back-pointer that a request to remove is about, if it is there.
-pub fn without_exactly(l: Backpointers, s: u8, x: Message) -> Backpointers
+fn without_exactly(l: Backpointers, s: u8, x: Message) -> Backpointers
     requires { ⌜ (packBackpointers (backpointersOf l) ≡ l) × (l .count ≤ maxBackpointers) × (length (keep (isExactly s x) (backpointersOf l)) ≤ 1) ⌝ }
     ensures { λ k. ⌜ k ≡ packBackpointers (without (isExactly s x) (backpointersOf l)) ⌝ }
 {
@@ -79,14 +79,14 @@ pub fn without_exactly(l: Backpointers, s: u8, x: Message) -> Backpointers
 }
 
 // A partition's number, as the tables hold it.
-pub fn number_of(p: usize) -> u8
+fn number_of(p: usize) -> u8
     requires { ⌜ p < maxPartitions ⌝ }
     ensures { λ r. ⌜ r ≡ p ⌝ }
 {
     p as u8
 }
 
-pub fn say(t: Tables, s: usize, r: usize, x: Message, body: Body) -> Tables
+fn say(t: Tables, s: usize, r: usize, x: Message, body: Body) -> Tables
     requires { ⌜ Answers t s r ⌝ }
     ensures { λ u. ⌜ u ≡ pack (send (view t) r s (answerTo x body)) ⌝ }
 {
@@ -94,7 +94,7 @@ pub fn say(t: Tables, s: usize, r: usize, x: Message, body: Body) -> Tables
     queues::send(t, r, s, answer)
 }
 
-pub fn add(t: Tables, s: usize, r: usize, x: Message) -> Tables
+fn add(t: Tables, s: usize, r: usize, x: Message) -> Tables
     requires { ⌜ Answers t s r × (AddsIt ≡ verdict (partition (view t) r) s x) ⌝ }
     ensures { λ u. ⌜ u ≡ pack (carryOut (view t) s r x AddsIt) ⌝ }
 {
@@ -108,7 +108,7 @@ pub fn add(t: Tables, s: usize, r: usize, x: Message) -> Tables
     say(added, s, r, x, yes)
 }
 
-pub fn remove(t: Tables, s: usize, r: usize, x: Message) -> Tables
+fn remove(t: Tables, s: usize, r: usize, x: Message) -> Tables
     requires { ⌜ Answers t s r × OneExactly t s r x ⌝ }
     ensures { λ u. ⌜ u ≡ pack (carryOut (view t) s r x DropsIt) ⌝ }
 {
@@ -121,7 +121,7 @@ pub fn remove(t: Tables, s: usize, r: usize, x: Message) -> Tables
     say(removed, s, r, x, yes)
 }
 
-pub fn carry_out(t: Tables, s: usize, r: usize, x: Message, v: Verdict) -> Tables
+fn carry_out(t: Tables, s: usize, r: usize, x: Message, v: Verdict) -> Tables
     requires { ⌜ Answers t s r × OneExactly t s r x × (v ≡ verdict (partition (view t) r) s x) ⌝ }
     ensures { λ u. ⌜ u ≡ pack (carryOut (view t) s r x v) ⌝ }
 {
@@ -132,7 +132,7 @@ pub fn carry_out(t: Tables, s: usize, r: usize, x: Message, v: Verdict) -> Table
     }
 }
 
-pub fn answer(t: Tables, s: usize, r: usize, x: Message) -> Tables
+fn answer(t: Tables, s: usize, r: usize, x: Message) -> Tables
     requires { ⌜ Answers t s r × OneExactly t s r x ⌝ }
     ensures { λ u. ⌜ u ≡ pack (carryOut (view t) s r x (verdict (partition (view t) r) s x)) ⌝ }
 {
@@ -146,7 +146,7 @@ pub fn answer(t: Tables, s: usize, r: usize, x: Message) -> Tables
 // ---- an answer, at the record's partition r
 
 // Of a link, and of a create.
-pub fn stage_after_add(body: Body) -> Stage
+fn stage_after_add(body: Body) -> Stage
     ensures { λ g. ⌜ g ≡ stageAfter Link body ⌝ }
 {
     match body {
@@ -157,7 +157,7 @@ pub fn stage_after_add(body: Body) -> Stage
     }
 }
 
-pub fn stage_after(kind: Kind, body: Body) -> Stage
+fn stage_after(kind: Kind, body: Body) -> Stage
     ensures { λ g. ⌜ g ≡ stageAfter kind body ⌝ }
 {
     match kind {
@@ -168,7 +168,7 @@ pub fn stage_after(kind: Kind, body: Body) -> Stage
 }
 
 // The record under the number in another stage, if it is there.
-pub fn with_stage(l: Records, number: u32, stage: Stage) -> Records
+fn with_stage(l: Records, number: u32, stage: Stage) -> Records
     requires { ⌜ (packRecords (recordsOf l) ≡ l) × (l .count ≤ maxRecords) × (length (keep (recordBears number) (recordsOf l)) ≤ 1) ⌝ }
     ensures { λ k. ⌜ k ≡ packRecords (mapIf (recordBears number) (inStage stage) (recordsOf l)) ⌝ }
 {
@@ -183,7 +183,7 @@ pub fn with_stage(l: Records, number: u32, stage: Stage) -> Records
     }
 }
 
-pub fn land(t: Tables, r: usize, x: Message) -> Tables
+fn land(t: Tables, r: usize, x: Message) -> Tables
     requires { ⌜ Lands t r x ⌝ }
     ensures { λ u. ⌜ u ≡ pack (land (view t) r x) ⌝ }
 {
@@ -199,7 +199,7 @@ pub fn land(t: Tables, r: usize, x: Message) -> Tables
 // ---- the event: r receives the oldest message from s
 
 // The message x was taken.
-pub fn receive(t: Tables, s: usize, r: usize, x: Message) -> Tables
+fn receive(t: Tables, s: usize, r: usize, x: Message) -> Tables
     requires { ⌜ Received t s r x ⌝ }
     ensures { λ u. ⌜ u ≡ pack (receive (x .body) (view t) s r x) ⌝ }
 {
@@ -212,7 +212,7 @@ pub fn receive(t: Tables, s: usize, r: usize, x: Message) -> Tables
     }
 }
 
-pub fn deliver_oldest(t: Tables, s: usize, r: usize) -> Answered
+fn deliver_oldest(t: Tables, s: usize, r: usize) -> Answered
     requires { ⌜ Ready t × (s < t .count) × (s < maxPartitions) × (r < t .count) × (r < maxPartitions) ⌝ }
     ensures { λ a. ⌜ a ≡ stored t (deliverOldest (view t) s r (queue (view t) s r)) ⌝ }
 {
@@ -238,7 +238,7 @@ pub fn deliver_there(t: Tables, s: usize, r: usize) -> Answered
     deliver_oldest(t, s, r)
 }
 
-pub fn are_there(n: usize, s: u32, r: u32) -> bool
+fn are_there(n: usize, s: u32, r: u32) -> bool
     ensures { λ b. ⌜ b ≡ (ltb s n && ltb r n) ⌝ }
 {
     if n <= s as usize {

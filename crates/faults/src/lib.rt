@@ -18,12 +18,12 @@ use tables::MAX_PARTITIONS;
 use tables::Tables;
 use tables::stores;
 
-pub mod losses;
+mod losses;
 
 // ---- cut
 
 // Both partitions are there, and they are two.
-pub fn cut_there(t: Tables, a: usize, b: usize) -> Answered
+fn cut_there(t: Tables, a: usize, b: usize) -> Answered
     requires { ⌜ Ready t × (a < t .count) × (b < t .count) × (a < maxPartitions) × (b < maxPartitions) × (eqb a b ≡ false) ⌝ }
     ensures { λ x. ⌜ x ≡ stored t (cut (view t) a b) ⌝ }
 {
@@ -58,7 +58,7 @@ pub fn cut_in_order(t: Tables, a: u32, b: u32) -> Answered
 
 // ---- crash
 
-pub fn crash_there(t: Tables, p: usize) -> Answered
+fn crash_there(t: Tables, p: usize) -> Answered
     requires { ⌜ Ready t × (p < t .count) × (p < maxPartitions) ⌝ }
     ensures { λ x. ⌜ x ≡ stored t (crash (view t) p) ⌝ }
 {
@@ -84,7 +84,7 @@ pub fn crash_in_order(t: Tables, p: u32) -> Answered
 
 // ---- recover
 
-pub fn recover_there(t: Tables, p: usize) -> Answered
+fn recover_there(t: Tables, p: usize) -> Answered
     requires { ⌜ Ready t × (p < t .count) × (p < maxPartitions) ⌝ }
     ensures { λ x. ⌜ x ≡ stored t (recover (view t) p) ⌝ }
 {

@@ -9,12 +9,12 @@ use tables::Partition;
 use tables::QUEUES;
 use tables::Tables;
 
-pub mod messages;
+mod messages;
 pub mod partition;
-pub mod shape;
+mod shape;
 
 // Whether a partition may stand at place a, where n are there.
-pub fn place_in_order(p: Partition, a: usize, n: usize, lasts: [u32; MAX_PARTITIONS]) -> bool
+fn place_in_order(p: Partition, a: usize, n: usize, lasts: [u32; MAX_PARTITIONS]) -> bool
     ensures { λ r. ⌜ r ≡ placeFine n lasts a p ⌝ }
 {
     if a < n {
@@ -25,7 +25,7 @@ pub fn place_in_order(p: Partition, a: usize, n: usize, lasts: [u32; MAX_PARTITI
     zero & unused
 }
 
-pub fn partitions_in_order(ps: [Partition; MAX_PARTITIONS], n: usize) -> bool
+fn partitions_in_order(ps: [Partition; MAX_PARTITIONS], n: usize) -> bool
     ensures { λ r. ⌜ r ≡ partitionsFine n ps ⌝ }
 {
     if n < 1 {

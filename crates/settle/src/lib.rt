@@ -10,7 +10,7 @@ use protocol::Tally;
 use tables::Tables;
 
 pub mod run; // steps until none is accepted, counted
-pub mod steps; // the first accepted step
+mod steps; // the first accepted step
 
 // What a settling step gives: whether one was accepted, its reply, and the tables after it.
 pub struct Step {
