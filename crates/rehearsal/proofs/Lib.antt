@@ -9,6 +9,3 @@ pub mod Spaces
 pub mod Examples
 pub mod Returns
 pub mod Squares
-pub mod Counting
-pub mod Responding
-pub mod Sessions

@@ -7,9 +7,8 @@ use lib.Dec.{leb}
 use lib.ListN.{length}
 use Rattle.lists.specs.Lists.{all}
 use Rattle.protocol.specs.Bounds.{largestNumber}
-use Rattle.rehearsal.specs.Line.{Command, NotUnderstood, commandOf, isNumber, notUnderstood, valueOf}
-use Rattle.rehearsal.specs.Rehearsal.{closed, rehearsal, respond}
-use Rattle.rehearsal.specs.Session.{Agrees, Orderly, Session, closedSession, responded, stateOf}
+use Rattle.rehearsal.specs.Line.{NotUnderstood, commandOf, isNumber, notUnderstood, valueOf}
+use Rattle.rehearsal.specs.Rehearsal.{rehearsal}
 use Rattle.rehearsal.specs.Text.{Puts, decimalOf, lineText}
 use Rattle.rehearsal.specs.Worked.{answers, readAnswers, readSchedule, schedule}
 
@@ -35,9 +34,3 @@ pub record OneReading : Type 0 where
 pub record OneText : Type 0 where
   pub bytes : (t before : List ℕ) (at : ℕ) (a b : List ℕ) (p q : ℕ) → Puts t before at a p → Puts t before at b q → a ≡ b
   pub place : (t before : List ℕ) (at : ℕ) (a b : List ℕ) (p q : ℕ) → Puts t before at a p → Puts t before at b q → p ≡ q
-
--- from its first line on, a session over the stored tables answers as the rehearsal does over the model
-pub record Sessions : Type 0 where
-  pub first : stateOf closedSession ≡ closed
-  pub orderly : Orderly closedSession
-  pub agrees : (s : Session) (c : Command) → Orderly s → Agrees (responded s c) (respond (stateOf s) c)

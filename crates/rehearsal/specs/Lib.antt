@@ -3,7 +3,5 @@ pub mod Places
 pub mod Text
 pub mod Answers
 pub mod Rehearsal
-pub mod Counts
-pub mod Session
 pub mod Worked
 pub mod Claims

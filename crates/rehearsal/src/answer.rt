@@ -8,7 +8,13 @@ ghost use Rattle.rehearsal.specs.Answers.{maxNumbers, numbersOf, pushed,
 use crate::NUMBERS;
 use crate::Numbers;
 use crate::SIDE;
-use crate::counts;
+
+// The lesser: how many elements an array of the length `most` has under this count.
+pub fn at_most(count: usize, most: usize) -> usize
+    ensures { λ r. ⌜ (r ≡ min count most) × (r ≤ most) ⌝ }
+{
+    if count < most { count } else { most }
+}
 
 // The refusal, the transaction number concerned, the reply.
 pub fn answered(refusal: u32, number: u32, reply: u32) -> Numbers
@@ -71,7 +77,7 @@ fn accepted() -> Numbers
 pub fn square(lengths: [[u32; SIDE]; SIDE], count: usize) -> Numbers
     ensures { λ r. ⌜ r ≡ stored (0 ∷ squareOf (min count maxPartitions) (λ s k. getD (getD lengths s []) k 0)) ⌝ }
 {
-    let side = counts::at_most(count, SIDE);
+    let side = at_most(count, SIDE);
     let mut x = accepted();
     let mut i: usize = 0;
     while i < side {

@@ -1,12 +1,10 @@
 // The rehearsal (document 01, 'The rehearsal program'): what a line asks, and the text that answers it.
 // What is proved of the definitions in specs/ stands in the contract of `claims`, and the function does nothing.
-ghost use Rattle.rehearsal.specs.Claims.{Worked, OneReading, ReadBack, ShortText, OneText, Sessions};
+ghost use Rattle.rehearsal.specs.Claims.{Worked, OneReading, ReadBack, ShortText, OneText};
 use names::Name;
 
 pub mod answer;
-pub mod counts;
 pub mod line;
-pub mod session;
 pub mod text;
 
 // The bytes of a line, the LF that ends it not counted.
@@ -82,14 +80,6 @@ pub struct Numbers {
     pub values: [u32; NUMBERS],
 }
 
-// What stands in the tables over all partitions and queues.
-pub struct Sums {
-    pub entries: u32,
-    pub backpointers: u32,
-    pub records: u32,
-    pub messages: u32,
-}
-
 pub fn claims()
-    ensures { λ r. ⌜ Worked × OneReading × ReadBack × ShortText × OneText × Sessions ⌝ }
+    ensures { λ r. ⌜ Worked × OneReading × ReadBack × ShortText × OneText ⌝ }
 {}

@@ -12,11 +12,11 @@ use Rattle.lists.specs.Lists.{isSome, one}
 use Rattle.lists.proofs.Tests.{byTest}
 use Rattle.rehearsal.specs.Line.{behind, commandOf, lineBytes, upTo}
 use Rattle.rehearsal.specs.Rehearsal.{State, answeredFrom, closed, linesFrom, rehearsal, respond}
-use Rattle.rehearsal.specs.Session.{Agrees, Orderly, closedSession, responded, stateOf}
+use Rattle.sessions.specs.Session.{Agrees, Orderly, closedSession, responded, stateOf}
 use Rattle.rehearsal.specs.Text.{lineEnd, lineText}
 use Rattle.rehearsal.specs.declared.Command.{Command}
-use Rattle.rehearsal.specs.declared.session.Session.{Session}
-use Rattle.rehearsal.proofs.Sessions.{first-closed, first-orderly, session-agrees}
+use Rattle.sessions.specs.declared.Session.{Session}
+use Rattle.sessions.proofs.Sessions.{first-closed, first-orderly, session-agrees}
 use Rattle.stream.specs.Sessions.{atStart, sessions}
 use Rattle.stream.specs.Feed.{Midway, Service, answer, answered, begunWith, fed, fedByte, joined, lineRoom, midway, nextLine, said, saidAll, saidByte, saidLast, startWith}
 

@@ -11,11 +11,11 @@ use lib.Seq.{drop-cons}
 use borrow.Author.Tests.{eq-eqb, ne-eqb}
 use Rattle.rehearsal.specs.Answers.{numbersOf}
 use Rattle.rehearsal.specs.Line.{commandOf}
-use Rattle.rehearsal.specs.Session.{responded}
+use Rattle.sessions.specs.Session.{responded}
 use Rattle.rehearsal.specs.Text.{Adds, lineEnd, lineText}
 use Rattle.rehearsal.specs.declared.Command.{Command}
-use Rattle.rehearsal.specs.declared.session.Response.{Response}
-use Rattle.rehearsal.specs.declared.session.Session.{Session}
+use Rattle.sessions.specs.declared.Response.{Response}
+use Rattle.sessions.specs.declared.Session.{Session}
 use Rattle.rehearsal.proofs.Buffers.{adds-length, adds-nothing, adds-on}
 use Rattle.stream.specs.Feed.{Midway, Service, begunWith, fed, fedByte, longestAnswer, midway, nextLine, said, saidByte}
 use Rattle.stream.specs.Sessions.{sessions}

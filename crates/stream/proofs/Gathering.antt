@@ -13,9 +13,9 @@ use denote.Laws.{Is}
 use Rattle.lists.specs.Lists.{isSome}
 use Rattle.lists.proofs.Arrays.{length-of}
 use Rattle.rehearsal.specs.Line.{commandOf}
-use Rattle.rehearsal.specs.Session.{closedSession}
+use Rattle.sessions.specs.Session.{closedSession}
 use Rattle.rehearsal.specs.declared.Command.{Command}
-use Rattle.rehearsal.specs.declared.session.Session.{Session}
+use Rattle.sessions.specs.declared.Session.{Session}
 use Rattle.stream.specs.Feed.{begunWith, lineRoom, midway}
 use Rattle.stream.specs.Sessions.{atStart, lineOf}
 use Rattle.stream.specs.declared.blocks.Line.{Line}

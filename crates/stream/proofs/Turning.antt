@@ -7,7 +7,7 @@ use native.Mathlib.Omega.{arith}
 use lib.ListN.{drop, length, length-append}
 use Rattle.lists.specs.Lists.{isSome}
 use Rattle.rehearsal.specs.Text.{Adds, lineEnd, written}
-use Rattle.rehearsal.specs.declared.session.Session.{Session}
+use Rattle.sessions.specs.declared.Session.{Session}
 use Rattle.rehearsal.proofs.Buffers.{adds-nothing}
 use Rattle.stream.specs.Feed.{midway, said, saidLast}
 use Rattle.stream.specs.Sessions.{sessions}

@@ -3,8 +3,8 @@ use mathlib.Core.List.{List}
 use Prim.Native.Nat.{ℕ}
 use lib.ListN.{take}
 use Rattle.rehearsal.specs.Answers.{numbersOf}
-use Rattle.rehearsal.specs.Session.{closedSession, responded}
-use Rattle.rehearsal.specs.declared.session.Session.{Session}
+use Rattle.sessions.specs.Session.{closedSession, responded}
+use Rattle.sessions.specs.declared.Session.{Session}
 use Rattle.stream.specs.Feed.{Midway, Service, midway, startWith}
 use Rattle.stream.specs.declared.blocks.Kept.{Kept}
 use Rattle.stream.specs.declared.blocks.Line.{Line}

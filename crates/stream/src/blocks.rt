@@ -14,9 +14,8 @@ use rehearsal::LF;
 use rehearsal::LINE_BYTES;
 use rehearsal::Numbers;
 use rehearsal::line;
-use rehearsal::session;
-use rehearsal::session::Session;
 use rehearsal::text;
+use sessions::Session;
 
 // One byte more than a line may have stands for any more.
 const LINE_ROOM: usize = LINE_BYTES + 1;
@@ -97,7 +96,7 @@ pub fn start() -> Kept
     ensures { λ r. ⌜ midwayOf r ≡ atStart ⌝ }
 {
     let line = no_bytes();
-    let session = session::closed();
+    let session = sessions::closed();
     Kept {
         line,
         lines: 0,
@@ -128,7 +127,7 @@ pub fn feed(k: Kept, block: &[u8], out: &mut [u8]) -> Fed
         if b == LF {
             lines = next_line(lines);
             let command = command_in(line);
-            let response = session::respond(session, command);
+            let response = sessions::respond(session, command);
             place = put_answer(out, place, lines, response.numbers);
             session = response.session;
             line = no_bytes();
