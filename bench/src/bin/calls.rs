@@ -14,7 +14,7 @@ const OBJECTS: u32 = 64;
 const RECORDS: u32 = 16;
 const SETTLE: &str = "Z 4294967295\n";
 
-/// A schedule that fills the tables, the last number that partition 0 then gave, and the lines to measure.
+/// A schedule that fills the tables, the lines to measure, and how many they are.
 struct Work {
     what: &'static str,
     fill: String,
