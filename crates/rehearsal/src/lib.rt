@@ -56,7 +56,7 @@ pub struct Command {
 }
 
 // What a word is, where it should be a number: its value, and the place behind it.
-enum Number {
+pub enum Number {
     Value(u32, usize),
     None,
 }

@@ -82,7 +82,7 @@ fn digits(line: &[u8], from: usize) -> Number
     Number::Value(value as u32, at)
 }
 
-fn number_at(line: &[u8], from: usize) -> Number
+pub fn number_at(line: &[u8], from: usize) -> Number
     ensures { λ r. ⌜ r ≡ numberAt (now (line .entry)) from ⌝ }
 {
     if starts_well(line, from) {} else {
