@@ -7,6 +7,7 @@ use Rattle.protocol.specs.Settle.{settle}
 use Rattle.protocol.proofs.Claimed.{order-kept, safety, settles, settling}
 use Rattle.writing.proofs.Writes.{one-report, one-room}
 use Rattle.service.specs.Claims.{CallsFollow, CodeHolds, CodeSettles, OneOutcome, PicturesReturn}
+use Rattle.service.proofs.Again.{writes-again}
 use Rattle.service.proofs.Returned.{loads-after-crash, loads-back}
 use Rattle.service.proofs.Follow.{call-answers, call-stores, calls-mean, settle-follows}
 
@@ -30,7 +31,7 @@ code-settles =
     }
 
 pub pictures-return : PicturesReturn
-pictures-return = record { back = loads-back; afterCrash = loads-after-crash }
+pictures-return = record { back = loads-back; afterCrash = loads-after-crash; again = writes-again }
 
 pub one-outcome : OneOutcome
 one-outcome =

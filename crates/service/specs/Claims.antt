@@ -12,6 +12,7 @@ use Rattle.protocol.specs.Events.{Crashing, Event, apply, run}
 use Rattle.protocol.specs.Order.{inOrder}
 use Rattle.protocol.specs.Settle.{settle}
 use Rattle.protocol.specs.Tables.{Model, fresh, isPartition, partition}
+use Rattle.protocol.specs.declared.Refusal.the-variants.{Accepted}
 use Rattle.protocol.specs.declared.Tally.{Tally}
 use Rattle.tables.specs.View.{pack, view}
 use Rattle.tables.specs.declared.Tables.{Tables}
@@ -20,6 +21,7 @@ use Rattle.answers.specs.declared.Answered.{Answered}
 use Rattle.settle.specs.Settled.{settled, settledOn}
 use Rattle.settle.specs.declared.Settled.{Settled}
 use Rattle.protocol.specs.declared.Reply.the-variants.{None}
+use Rattle.codec.specs.Codec.{isByte}
 use Rattle.picture.specs.Picture.{largestPicture}
 use Rattle.writing.specs.Written.{after, writtenFrom}
 use Rattle.writing.specs.declared.Reported.{Reported}
@@ -53,6 +55,9 @@ pub record PicturesReturn : Type 0 where
       → loaded (pack m) p (pictureIn (pack m) p room) ≡ acceptedWith (pack m) 0 None
   pub afterCrash : (m : Model) (p : ℕ) (room : List ℕ) → inOrder m ≡ true → isPartition m p ≡ true → largestPicture ≤ length room → partition m p .up ≡ true
       → loaded (called (pack m) (Crashing p) .tables) p (pictureIn (pack m) p room) ≡ acceptedWith (called (pack m) (Crashing p) .tables) 0 None
+  -- the other way round: of any bytes that are loaded into any tables, the very same are written
+  pub again : (t : Tables) (p : ℕ) (bs room : List ℕ) → all isByte bs ≡ true → loaded t p bs .answer .refusal ≡ Accepted → largestPicture ≤ length room
+      → pictureIn (loaded t p bs .tables) p room ≡ bs
 
 -- Demand 1's "no two outcomes satisfy one statement", of every public call that has one.
 pub record OneOutcome : Type 0 where
