@@ -23,7 +23,7 @@ use Rattle.lists.proofs.Tests.{_also_, and-left, and-right, below-at, below-tru
 use Rattle.lists.proofs.Tidies.{tidy-count}
 use Rattle.tables.proofs.Packs.{Shaped, shaped-all}
 use Rattle.tables.proofs.Views.{count-view, partition-there, partition-view, past-view, queue-view, queues-view}
-use Rattle.order.proofs.Laws.{pair-at, place-shaped}
+use Rattle.order.proofs.Laws.{pair-at, place-at, place-shaped, places-few, places-many, places-start}
 use Rattle.order.proofs.Whole.{PairOrder, PartitionOrder, fine-of, order-of, order-whole, pair-order, pair-test, whole-pieces}
 use Rattle.protocol.specs.Tables.{Partition as Part, partition, queue, partitionCount, noPartition as noPart}
 
@@ -143,12 +143,18 @@ decided t z =
     (λ y. let e = shape-passes t z y in both-true e (order-passes t z e y))
     (λ y. steps-pass t z (and-left _ _ y) (and-right (shaped t) _ y))
 
--- `in_order`: the partitions, and then the loop over the pairs
-module _ (t : Tables) (z : Sized t) (b : Bool) (e : b ≡ partitionsFine (t .count) (t .partitions)) where
-  pub order-not : b ≡ false → false ≡ (shaped t && inOrder (view t))
-  order-not y = every-no _ b _ e y ∙ decided t z
+-- `in_order`: the loop over the places, and then the loop over the pairs
+module _ (t : Tables) (z : Sized t) where
+  pub order-not : false ≡ partitionsFine (t .count) (t .partitions) → false ≡ (shaped t && inOrder (view t))
+  order-not e = every-no _ false _ e refl ∙ decided t z
 
-  pub order-start : b ≡ true → Down (shaped t && inOrder (view t)) (pairAt t) queueCount
-  order-start y = record { left = sym (every-yes _ b _ e _ y (every-last (below queueCount (pairAt t)) _ refl) ∙ decided t z) }
+  pub order-few : t .count < 1 → false ≡ (shaped t && inOrder (view t))
+  order-few h = order-not (places-few (t .count) (t .partitions) h)
 
-pub ruleset orders = (order-not, order-start, pair-at)
+  pub order-many : 1 ≤ t .count → maxPartitions < t .count → false ≡ (shaped t && inOrder (view t))
+  order-many g h = order-not (places-many (t .count) (t .partitions) g h)
+
+  pub order-start : true ≡ partitionsFine (t .count) (t .partitions) → Down (shaped t && inOrder (view t)) (pairAt t) queueCount
+  order-start e = record { left = sym (every-yes _ true _ e _ refl (every-last (below queueCount (pairAt t)) _ refl) ∙ decided t z) }
+
+pub ruleset orders = (order-few, order-many, order-not, order-start, places-start, place-at, pair-at)

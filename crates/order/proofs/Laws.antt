@@ -7,7 +7,7 @@ use native.Mathlib.Omega.{arith}
 use lib.Dec.{eqb, leb, ltb}
 use lib.ListN.{getD, length, take}
 use borrow.Author.Tests.{eq-eqb, eqb-false, eqb-true, le-leb, le-ltb, lt-leb, lt-ltb, ne-eqb}
-use Rattle.lists.specs.Lists.{any, below, every, isNone, keep, pick}
+use Rattle.lists.specs.Lists.{all, any, below, every, isNone, keep, pick}
 use Rattle.protocol.specs.Bounds.{maxEntries, maxPartitions, maxRecords}
 use Rattle.protocol.specs.Elements.{bodyFits, isRequest, isSent}
 use Rattle.protocol.specs.Order.{isAnswerTo, isRequestOf, sentAs}
@@ -125,6 +125,11 @@ taken-some zero xs h f = absurd (h refl)
 taken-some (suc n) [] h f = absurd (omega arith)
 taken-some (suc n) (x ∷ xs) h f = refl
 
+-- a list of none passes every test
+pub none-fine : {A : Type 0} (f : A → Bool) (n : ℕ) (xs : List A) → n ≡ 0 → true ≡ all f (take n xs)
+unfolding all
+none-fine f n xs h = rw h refl
+
 module _ {A : Type 0} (up : Bool) (n : ℕ) (xs : List A) (bs : List Bool) (fits : n ≤ length xs) where
   pub down-talks : (not (eqb n 0) && not up) ≡ true → false ≡ every ((up || isNone (take n xs)) ∷ bs)
   unfolding every
@@ -197,10 +202,10 @@ place-shaped n lasts a p h = go (ltb a n) h
     go false f = and-left _ _ f
 
 -- once the partitions have passed, their records are within their bound
-pub records-at : (n : ℕ) (ps : List Partition) (i : ℕ) (b : Bool) → b ≡ partitionsFine n ps → b ≡ true → i < maxPartitions → getD ps i noPartition .records .count ≤ maxRecords
+pub records-at : (n : ℕ) (ps : List Partition) (i : ℕ) → true ≡ partitionsFine n ps → i < maxPartitions → getD ps i noPartition .records .count ≤ maxRecords
 unfolding partitionsFine placeAt
-records-at n ps i b e y h =
-    ranged (getD ps i noPartition) (place-shaped n (lastsOf ps) i (getD ps i noPartition) (below-at maxPartitions (placeAt n ps) (every-at _ (sym e ∙ y) 2) i h)) .records
+records-at n ps i e h =
+    ranged (getD ps i noPartition) (place-shaped n (lastsOf ps) i (getD ps i noPartition) (below-at maxPartitions (placeAt n ps) (every-at _ (sym e) 2) i h)) .records
 
 -- the loop over the places, at the end of a list of tests
 module _ (n : ℕ) (ps : List Partition) where
@@ -215,5 +220,3 @@ module _ (n : ℕ) (ps : List Partition) where
   pub places-start : 1 ≤ n → n ≤ maxPartitions → Down (partitionsFine n ps) (placeAt n ps) maxPartitions
   unfolding partitionsFine
   places-start g h = record { left = sym (every-le 1 n _ _ g (every-le n maxPartitions _ _ h (every-last (below maxPartitions (placeAt n ps)) _ refl))) }
-
-pub ruleset partitions = (places-few, places-many, places-start, place-at)

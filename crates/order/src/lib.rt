@@ -3,7 +3,7 @@ ghost use mathlib.Core.Bool.{_&&_};
 ghost use mathlib.Core.Path.{_≡_};
 ghost use Rattle.protocol.specs.Order.{inOrder};
 ghost use Rattle.tables.specs.View.{view, shaped};
-ghost use Rattle.order.specs.Clauses.{placeFine, partitionsFine};
+ghost use Rattle.order.specs.Clauses.{placeFine};
 use tables::MAX_PARTITIONS;
 use tables::Partition;
 use tables::QUEUES;
@@ -25,39 +25,30 @@ fn place_in_order(p: Partition, a: usize, n: usize, lasts: [u32; MAX_PARTITIONS]
     zero & unused
 }
 
-fn partitions_in_order(ps: [Partition; MAX_PARTITIONS], n: usize) -> bool
-    ensures { λ r. ⌜ r ≡ partitionsFine n ps ⌝ }
+// Both loops stand here, over the partitions and over every ordered pair of them, of those that are not there too: so the tables,
+// of some twenty kilobytes, are handed on to nobody.
+pub fn in_order(t: Tables) -> bool
+    ensures { λ r. ⌜ r ≡ (shaped t && inOrder (view t)) ⌝ }
 {
+    let n = t.count;
     if n < 1 {
         return false;
     }
     if MAX_PARTITIONS < n {
         return false;
     }
-    let p = ps[0];
-    let q = ps[1];
-    let r = ps[2];
-    let s = ps[3];
-    let lasts = [p.last, q.last, r.last, s.last];
+    let p0 = t.partitions[0];
+    let p1 = t.partitions[1];
+    let p2 = t.partitions[2];
+    let p3 = t.partitions[3];
+    let lasts = [p0.last, p1.last, p2.last, p3.last];
     let mut a: usize = MAX_PARTITIONS;
     while 0 < a {
         a -= 1;
-        let x = ps[a];
-        if place_in_order(x, a, n, lasts) {} else {
+        let p = t.partitions[a];
+        if place_in_order(p, a, n, lasts) {} else {
             return false;
         }
-    }
-    true
-}
-
-// The loop goes over every ordered pair of partitions, of those that are not there too. It stands here, so that the tables, of
-// some twenty kilobytes, are handed on to nobody.
-pub fn in_order(t: Tables) -> bool
-    ensures { λ r. ⌜ r ≡ (shaped t && inOrder (view t)) ⌝ }
-{
-    let partitions = t.partitions;
-    if partitions_in_order(partitions, t.count) {} else {
-        return false;
     }
     let mut k: usize = QUEUES;
     while 0 < k {

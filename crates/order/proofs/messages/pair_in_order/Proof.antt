@@ -22,8 +22,8 @@ returns-3 : tie.Need-returns-3
 unfolding pairFine
 returns-3 c = search (quiets, everys, tidy-fits, messages-fit, needs) depth 9
 
-messages-in-order-requires : tie.Need-messages-in-order-requires
-messages-in-order-requires c κs = search (tidy-fits, needs)
+queue-in-order-requires : tie.Need-queue-in-order-requires
+queue-in-order-requires c κs = search (tidy-fits, needs)
 
 returns-4 : tie.Need-returns-4
 unfolding pairFine
@@ -44,7 +44,7 @@ pair-in-order-spec =
     returns
     returns-2
     returns-3
-    messages-in-order-requires
+    queue-in-order-requires
     returns-4
     records-answered-requires
     returns-5)
