@@ -2,7 +2,7 @@
 use mathlib.Core.Bool.{Bool, false, true}
 use mathlib.Core.List.{List, List·Memᴰ, [], _++_, _∷_}
 use mathlib.Core.Path.{_∙_, _≡_, ap, refl, subst, sym}
-use Prim.Native.Nat.{_<_, _≤_, ℕ}
+use Prim.Native.Nat.{_*_, _+_, _<_, _≤_, ℕ}
 use native.Mathlib.Omega.{arith}
 use lib.ListN.{getD, length, set}
 use lib.Seq.{getD-take, length-take-le}
@@ -12,7 +12,7 @@ use Rattle.protocol.specs.Answers.{accept, refuse}
 use Rattle.protocol.specs.Bounds.{maxEntries, maxMessages, maxPartitions, maxRecords}
 use Rattle.protocol.specs.Elements.{adds, isAccepted, isSent}
 use Rattle.tables.specs.Slots.{noEntry, noRecord}
-use Rattle.tables.specs.View.{Sized, Stored, entriesOf, pack, packEntries, packRecords, partitionAt, recordsOf, view, viewPartition}
+use Rattle.tables.specs.View.{Sized, Stored, entriesOf, noQueue, pack, packEntries, packRecords, partitionAt, queueAt, recordsOf, view, viewPartition}
 use Rattle.answers.specs.Called.{Ready, acceptedWith, refusedWith, stored}
 use Rattle.answers.specs.declared.Answered.{Answered}
 use Rattle.advances.specs.Opened.{OpenAt, SendsTo}
@@ -25,7 +25,10 @@ use Rattle.protocol.proofs.Numbers.{queue-part}
 use Rattle.protocol.proofs.Room.{entry-room, one-entry, one-record, owner-there, request-room}
 use Rattle.tables.proofs.Packs.{view-pack}
 use Rattle.tables.proofs.Stored.{entries-stored, records-stored}
-use Rattle.answers.proofs.Changed.{entries-changed, records-changed, stored-again}
+use Rattle.answers.proofs.Applied.{entries-change, exchanged-applies, queue-few, records-change, records-exchange}
+use Rattle.answers.specs.declared.changes.Change.{Change}
+use Rattle.answers.specs.Change.{Applies, applied, changesWith, exchangesWith}
+use Rattle.lists.proofs.Backs.{set-back}
 use Rattle.answers.proofs.Ways.{accepts, passes, read-count, read-entries, read-four, read-records, read-sized, read-up, read-view, ready-stored, ready-view, refuses}
 use Rattle.protocol.specs.Tables.{Model, changeRecords, closeRecord, enterName, entryBears, entryOf, inStage, messageOf, partition, queue, recordBears, send, setPartition, setStage, takeOutName, turnRecord, turned, withEntries, withRecords, Partition as Part}
 use Rattle.protocol.specs.declared.Stage.the-variants.{Cleared, Held, Ready as ReadyStage, Refused, Sent}
@@ -171,29 +174,25 @@ module _ (t : Tables) (z : Sized t) (r : Ready t) (p i : ℕ) (c : Record) (o : 
       ap (λ (y : Record). set ls i (u y)) (sym here) ∙ mapIf-at (recordBears (c .number)) noRecord u ls i inside bears sole
       ∙ ap (λ (y : Part). mapIf (recordBears (c .number)) u (y .records)) (sym seen)
 
-  packed : t ≡ pack m
-  packed = sym (ready-stored t p z r (o .partition) .packed)
+  stored-here : Stored t p
+  stored-here = ready-stored t p z r (o .partition)
 
-  abbrev RecordsStored : Records → Tables → Type 0
-  RecordsStored l w = w ≡ pack (setPartition m p (withRecords (partition m p) (recordsOf l)))
+  abbrev withRecordsOf : Records → Partition
+  withRecordsOf l = record { up = x .up; last = x .last; entries = x .entries; backpointers = x .backpointers; records = l }
 
-  abbrev EntriesStored : Entries → Tables → Type 0
-  EntriesStored l w = w ≡ pack (setPartition m p (withEntries (partition m p) (entriesOf l)))
+  abbrev withEntriesOf : Entries → Partition
+  withEntriesOf l = record { up = x .up; last = x .last; entries = l; backpointers = x .backpointers; records = x .records }
 
-  pub closed : (reply : Reply) (l : Records) (w : Tables) (a : Answered) → l ≡ packRecords (removeAt i (recordsOf (x .records))) → RecordsStored l w
-      → a ≡ acceptedWith w (c .number) reply → a ≡ stored t (perform m p c (Closes reply))
+  pub closed : (reply : Reply) (l : Records) (a : Change) → l ≡ packRecords (removeAt i (recordsOf (x .records))) → a ≡ changesWith p (withRecordsOf l) (c .number) reply
+      → applied t a ≡ stored t (perform m p c (Closes reply))
   unfolding perform
-  closed reply l w a hl hw ha =
-      let b : w ≡ pack (closeRecord m p (c .number)) = records-changed m p t w packed (without (recordBears (c .number))) l (hl ∙ ap packRecords gone) hw in
-      ha ∙ accepts t w (c .number) reply _ b
+  closed reply l a hl ha = records-change t p stored-here x e (without (recordBears (c .number))) l (hl ∙ ap packRecords gone) (c .number) reply a ha
 
-  pub turned-round : (c′ : Record) (l : Records) (w : Tables) (a : Answered) → c′ ≡ turned c → l ≡ packRecords (set (recordsOf (x .records)) i c′) → RecordsStored l w
-      → a ≡ acceptedWith w (c .number) NameTaken → a ≡ stored t (perform m p c Turns)
+  pub turned-round : (c′ : Record) (l : Records) (a : Change) → c′ ≡ turned c → l ≡ packRecords (set (recordsOf (x .records)) i c′)
+      → a ≡ changesWith p (withRecordsOf l) (c .number) NameTaken → applied t a ≡ stored t (perform m p c Turns)
   unfolding perform
-  turned-round c′ l w a hc hl hw ha =
-      let b : w ≡ pack (turnRecord m p (c .number)) =
-      records-changed m p t w packed (mapIf (recordBears (c .number)) turned) l (hl ∙ ap (λ (y : Record). packRecords (set ls i y)) hc ∙ ap packRecords (changed turned)) hw in
-      ha ∙ accepts t w (c .number) NameTaken _ b
+  turned-round c′ l a hc hl ha =
+      records-change t p stored-here x e (mapIf (recordBears (c .number)) turned) l (hl ∙ ap (λ (y : Record). packRecords (set ls i y)) hc ∙ ap packRecords (changed turned)) (c .number) NameTaken a ha
 
   pub enter-room : Enters ≡ next (partition m p) c → x .entries .count < maxEntries
   unfolding next
@@ -204,13 +203,13 @@ module _ (t : Tables) (z : Sized t) (r : Ready t) (p i : ℕ) (c : Record) (o : 
       let k : length (partition m p .entries) ≡ x .entries .count = rw seen (length-take-le (x .entries .count) (x .entries .items) (omega (arith, step-entries-most))) in
       omega arith
 
-  pub entered : (y : Entry) (l : Entries) (w : Tables) (a : Answered) → y ≡ entryOf c → l ≡ packEntries (entriesOf (x .entries) ++ y ∷ []) → EntriesStored l w
-      → a ≡ acceptedWith w (c .number) Done → a ≡ stored t (perform m p c Enters)
+  pub entered : (y : Entry) (l : Entries) (a : Change) → y ≡ entryOf c → l ≡ packEntries (entriesOf (x .entries) ++ y ∷ []) → a ≡ changesWith p (withEntriesOf l) (c .number) Done
+      → applied t a ≡ stored t (perform m p c Enters)
   unfolding perform
-  entered y l w a hy hl hw ha =
-      let b : w ≡ pack (enterName m p (entryOf c)) =
-      entries-changed m p t w packed (λ k. k ++ entryOf c ∷ []) l (hl ∙ ap (λ (q : Entry). packEntries (entriesOf (x .entries) ++ q ∷ [])) hy ∙ ap (λ (q : Part). packEntries (q .entries ++ entryOf c ∷ [])) (sym seen)) hw in
-      ha ∙ accepts t w (c .number) Done _ b
+  entered y l a hy hl ha =
+      entries-change t p stored-here x e (λ k. k ++ entryOf c ∷ []) l
+      (hl ∙ ap (λ (q : Entry). packEntries (entriesOf (x .entries) ++ q ∷ [])) hy ∙ ap (λ (q : Part). packEntries (q .entries ++ entryOf c ∷ [])) (sym seen))
+      (c .number) Done a ha
 
   -- the entry is looked for by its number
   module _ (f : Found) (g : f ≡ firstAt (entryBears (c .number)) (entriesOf (x .entries))) (n : TakesOut ≡ next (partition m p) c) where
@@ -220,25 +219,28 @@ module _ (t : Tables) (z : Sized t) (r : Ready t) (p i : ℕ) (c : Record) (o : 
         let k : keep (entryBears (c .number)) (partition m p .entries) ≡ [] = rw seen (none-kept (entryBears (c .number)) 0 (entriesOf (x .entries)) (sym g ∙ q)) in
         no-true (taking (c .kind) (c .stage) _ _ n) (ap isSome k)
 
-    pub out-found : (j : ℕ) (l : Entries) (w : Tables) (a : Answered) → f ≡ At j → l ≡ packEntries (removeAt j (entriesOf (x .entries))) → EntriesStored l w
-        → a ≡ acceptedWith w (c .number) Done → a ≡ stored t (perform m p c TakesOut)
+    pub out-found : (j : ℕ) (l : Entries) (a : Change) → f ≡ At j → l ≡ packEntries (removeAt j (entriesOf (x .entries))) → a ≡ changesWith p (withEntriesOf l) (c .number) Done
+        → applied t a ≡ stored t (perform m p c TakesOut)
     unfolding perform
-    out-found j l w a q hl hw ha =
+    out-found j l a q hl ha =
         let es : List Entry = entriesOf (x .entries) in
         let u : length (keep (entryBears (c .number)) es) ≤ 1 = subst (λ (q : Part). length (keep (entryBears (c .number)) (q .entries)) ≤ 1) seen (one-entry m (r .order) p (c .number)) in
         let d : removeAt j es ≡ without (entryBears (c .number)) (partition m p .entries) =
         found-removed (entryBears (c .number)) noEntry es j (sym g ∙ q) u ∙ ap (λ (q : Part). without (entryBears (c .number)) (q .entries)) (sym seen)
         in
-        let h : w ≡ pack (takeOutName m p (c .number)) = entries-changed m p t w packed (without (entryBears (c .number))) l (hl ∙ ap packEntries d) hw in
-        ha ∙ accepts t w (c .number) Done _ h
+        entries-change t p stored-here x e (without (entryBears (c .number))) l (hl ∙ ap packEntries d) (c .number) Done a ha
 
-  pub staged : (stage : Stage) (c′ : Record) (l : Records) (u : Tables) → c′ ≡ inStage stage c → l ≡ packRecords (set (recordsOf (x .records)) i c′) → RecordsStored l u
-      → u ≡ pack (setStage m p (c .number) stage)
-  unfolding changeRecords
-  staged stage c′ l u hc hl hu =
-      records-changed m p t u packed (mapIf (recordBears (c .number)) (inStage stage)) l (hl ∙ ap (λ (j : Record). packRecords (set ls i j)) hc ∙ ap packRecords (changed (inStage stage))) hu
+  -- the record's request goes to q
+  module _ (q : ℕ) (s : SendsTo t p c q) where
+    pub requested : (c′ : Record) (l : Records) (g : Message) (a : Change) → c′ ≡ inStage Sent c → l ≡ packRecords (set (recordsOf (x .records)) i c′) → g ≡ messageOf Request c
+        → a ≡ exchangesWith p q (withRecordsOf l) (c .number) false true g
+        → applied t a ≡ stored t (accept (c .number) None (send (setStage m p (c .number) Sent) p (c .partition) (messageOf Request c)))
+    requested c′ l g a hc hl hg ha =
+        records-exchange t p stored-here x e q (ready-stored t q z r (s .there)) false true g (c .number) a (mapIf (recordBears (c .number)) (inStage Sent)) l
+        (hl ∙ ap (λ (j : Record). packRecords (set ls i j)) hc ∙ ap packRecords (changed (inStage Sent))) ha
+        ∙ rw (hg, s .owner) refl
 
-pub ruleset steps = (step-records, step-entries, step-place, step-most, step-entries-most, closed, turned-round, enter-room, entered, out-missing, out-found, staged)
+pub ruleset steps = (step-records, step-entries, step-place, step-most, step-entries-most, closed, turned-round, enter-room, entered, out-missing, out-found, requested)
 
 -- ---- the record's request is sent to q
 
@@ -249,30 +251,16 @@ module _ (t : Tables) (z : Sized t) (r : Ready t) (p i : ℕ) (c : Record) (o : 
   packed-here : t ≡ pack (view t)
   packed-here = sym (ready-stored t p z r (o .partition) .packed)
 
-  module _ (q : ℕ) (s : SendsTo t p c q) (u : Tables) (h : u ≡ pack (setStage (view t) p (c .number) Sent)) where
-    pub send-from : Stored u p
-    unfolding changeRecords
-    send-from = stored-again t u p p _ (ready-stored t p z r (o .partition)) h
-
-    pub send-to : Stored u q
-    unfolding changeRecords
-    send-to = stored-again t u p q _ (ready-stored t q z r (s .there)) h
-
-    viewed : view u ≡ setStage (view t) p (c .number) Sent
-    viewed = ap view h ∙ view-pack _
-
-    pub send-room : length (queue (view u) p q) < maxMessages
-    unfolding changeRecords
-    send-room = rw (viewed, queue-part (view t) p _ p q) (s .room)
-
-    pub requested : (g : Message) (w : Tables) (a : Answered) → g ≡ messageOf Request c → w ≡ pack (send (view u) p q g) → a ≡ acceptedWith w (c .number) None
-        → a ≡ stored t (accept (c .number) None (send (setStage (view t) p (c .number) Sent) p (c .partition) (messageOf Request c)))
-    requested g w a hg hw ha =
-        let d : w ≡ pack (send (setStage (view t) p (c .number) Sent) p (c .partition) (messageOf Request c)) =
-        hw ∙ ap (λ (j : Message). pack (send (view u) p q j)) hg ∙ ap (λ (j : Model). pack (send j p q (messageOf Request c))) viewed
-        ∙ ap (λ (j : ℕ). pack (send (setStage (view t) p (c .number) Sent) p j (messageOf Request c))) (s .owner)
-        in
-        ha ∙ accepts t w (c .number) None _ d
+  pub request-applies : (q : ℕ) → SendsTo t p c q → (y : Partition) (n : ℕ) (g : Message) (a : Change) → a ≡ exchangesWith p q y n false true g → Applies t a
+  request-applies q s y n g a ha =
+      exchanged-applies t r p (o .partition) a q (s .there) y n false true g (record { some = λ k. no-true k refl })
+      (record {
+        room =
+            λ k.
+            rw (set-back (t .queues) (q * maxPartitions + p) noQueue)
+            (queue-few t z p q (ready-stored t p z r (o .partition)) (ready-stored t q z r (s .there)) (queueAt t (p * maxPartitions + q)) refl (s .room));
+      })
+      ha
 
   module _ (n : Sends ≡ next (partition (view t) p) c) (q : ℕ) (e : q ≡ c .partition) where
     there : q < t .count
@@ -300,10 +288,10 @@ module _ (t : Tables) (z : Sized t) (r : Ready t) (p i : ℕ) (c : Record) (o : 
     unfolding perform
     send-goes a f h = h ∙ passes t _ TowardsDown _ _ (up-there ∙ f)
 
-  -- the record stays as it is; s is the step that was found
-  pub stays : (s : Next) (why : Refusal) (a : Answered) → s ≡ Stays why → a ≡ refusedWith t why → a ≡ stored t (perform (view t) p c s)
+  -- the record stays as it is
+  pub stays : (why : Refusal) (a : Answered) → a ≡ refusedWith t why → a ≡ stored t (perform (view t) p c (Stays why))
   unfolding perform stored
-  stays s why a n h = h ∙ stay-kept why ∙ ap (λ (j : Next). stored t (perform (view t) p c j)) (sym n)
+  stays why a h = h ∙ stay-kept why
     where
       stay-kept : (w : Refusal) → refusedWith t w ≡ stored t (refuse w (view t))
       stay-kept w = byTest (isAccepted w) (λ k. rw k (ap (λ (u : Tables). record { answer = record { refusal = w; number = 0; reply = None }; tables = u }) packed-here)) (λ k. rw k refl)
@@ -315,9 +303,7 @@ step-found x c s g e h = sym e ∙ h
 pub step-taken : (t : Tables) (p : ℕ) (c : Record) (s g : Next) (a : Answered) → s ≡ g → a ≡ stored t (perform (view t) p c g) → a ≡ stored t (perform (view t) p c s)
 step-taken t p c s g a e h = h ∙ ap (λ (j : Next). stored t (perform (view t) p c j)) (sym e)
 
-pub ruleset step-cases = (stays, step-found, step-taken)
-
-pub ruleset sending = (send-from, send-to, send-room, requested)
+pub ruleset step-cases = (step-found, step-taken)
 
 pub ruleset sendings = (send-below, sends-to)
 

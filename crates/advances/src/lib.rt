@@ -7,19 +7,23 @@ ghost use Rattle.protocol.specs.Answers.{accept};
 ghost use Rattle.protocol.specs.Bounds.{maxPartitions, maxRecords};
 ghost use Rattle.protocol.specs.Tables.{entryOf, inStage, messageOf, partition, recordBears, send, setStage, turned};
 ghost use Rattle.protocol.specs.declared.Body.the-variants.{Request};
-ghost use Rattle.protocol.specs.declared.Next.the-variants.{Closes, Enters, Sends, TakesOut, Turns};
+ghost use Rattle.protocol.specs.declared.Next.the-variants.{Closes, Enters, Sends, Stays, TakesOut, Turns};
 ghost use Rattle.protocol.specs.declared.Reply.the-variants.{None};
 ghost use Rattle.protocol.specs.declared.Stage.the-variants.{Sent};
 ghost use lib.ListN.{getD};
 ghost use mathlib.Core.List.{[], _∷_};
 ghost use Rattle.tables.specs.Slots.{noRecord};
-ghost use Rattle.tables.specs.View.{pack, partitionAt, view};
+ghost use Rattle.tables.specs.View.{partitionAt, view};
 ghost use Rattle.answers.specs.Called.{Ready, stored};
+ghost use Rattle.answers.specs.Change.{Applies, applied};
 ghost use Rattle.advances.specs.Opened.{OpenAt, SendsTo};
 use answers::Answered;
-use answers::accepted;
+use answers::changes::Change;
+use answers::changes::apply;
+use answers::changes::changes;
+use answers::changes::exchanges;
+use answers::changes::keeps;
 use answers::is_there;
-use answers::queues;
 use answers::refused;
 use lists::Found;
 use protocol::Body;
@@ -33,7 +37,6 @@ use protocol::Reply;
 use protocol::Stage;
 use tables::Tables;
 use tables::reads;
-use tables::stores;
 use tables::writes;
 
 mod next;
@@ -105,105 +108,115 @@ fn entry_of(r: Record) -> Entry
 
 // ---- the steps of partition p's record r, which stands at place i
 
-fn close(t: Tables, p: usize, i: usize, r: Record, reply: Reply) -> Answered
+fn close(t: Tables, p: usize, i: usize, r: Record, reply: Reply) -> Change
     requires { ⌜ Ready t × OpenAt t p i r ⌝ }
-    ensures { λ a. ⌜ a ≡ stored t (perform (view t) p r (Closes reply)) ⌝ }
+    ensures { λ c. ⌜ applied t c ≡ stored t (perform (view t) p r (Closes reply)) ⌝ }
+    ensures { λ c. ⌜ Applies t c ⌝ }
 {
-    let x = t.partitions[p];
+    let mut x = t.partitions[p];
     let records = x.records;
     let fewer = writes::remove_record(records, i);
-    let closed = stores::with_records(t, p, fewer);
-    accepted(closed, r.number, reply)
+    x.records = fewer;
+    changes(p, x, r.number, reply)
 }
 
-fn turn(t: Tables, p: usize, i: usize, r: Record) -> Answered
+fn turn(t: Tables, p: usize, i: usize, r: Record) -> Change
     requires { ⌜ Ready t × OpenAt t p i r ⌝ }
-    ensures { λ a. ⌜ a ≡ stored t (perform (view t) p r Turns) ⌝ }
+    ensures { λ c. ⌜ applied t c ≡ stored t (perform (view t) p r Turns) ⌝ }
+    ensures { λ c. ⌜ Applies t c ⌝ }
 {
-    let x = t.partitions[p];
+    let mut x = t.partitions[p];
     let records = x.records;
     let unlinking = turned(r);
     let changed = writes::set_record(records, i, unlinking);
-    let done = stores::with_records(t, p, changed);
-    accepted(done, r.number, Reply::NameTaken)
+    x.records = changed;
+    changes(p, x, r.number, Reply::NameTaken)
 }
 
-fn enter(t: Tables, p: usize, i: usize, r: Record) -> Answered
+fn enter(t: Tables, p: usize, i: usize, r: Record) -> Change
     requires { ⌜ Ready t × OpenAt t p i r × (Enters ≡ next (partition (view t) p) r) ⌝ }
-    ensures { λ a. ⌜ a ≡ stored t (perform (view t) p r Enters) ⌝ }
+    ensures { λ c. ⌜ applied t c ≡ stored t (perform (view t) p r Enters) ⌝ }
+    ensures { λ c. ⌜ Applies t c ⌝ }
 {
-    let x = t.partitions[p];
+    let mut x = t.partitions[p];
     let entries = x.entries;
     let item = entry_of(r);
     let more = writes::add_entry(entries, item);
-    let done = stores::with_entries(t, p, more);
-    accepted(done, r.number, Reply::Done)
+    x.entries = more;
+    changes(p, x, r.number, Reply::Done)
 }
 
-fn take_out(t: Tables, p: usize, i: usize, r: Record) -> Answered
+fn take_out(t: Tables, p: usize, i: usize, r: Record) -> Change
     requires { ⌜ Ready t × OpenAt t p i r × (TakesOut ≡ next (partition (view t) p) r) ⌝ }
-    ensures { λ a. ⌜ a ≡ stored t (perform (view t) p r TakesOut) ⌝ }
+    ensures { λ c. ⌜ applied t c ≡ stored t (perform (view t) p r TakesOut) ⌝ }
+    ensures { λ c. ⌜ Applies t c ⌝ }
 {
-    let x = t.partitions[p];
+    let mut x = t.partitions[p];
     let entries = x.entries;
     let found = reads::find_entry(entries, r.number);
     match found {
         // not met: the step is to take out an entry that stands
-        Found::Nothing => refused(t, Refusal::OutOfOrder),
+        Found::Nothing => keeps(p, x, Refusal::OutOfOrder),
         Found::At(at) => {
             let fewer = writes::remove_entry(entries, at);
-            let done = stores::with_entries(t, p, fewer);
-            accepted(done, r.number, Reply::Done)
+            x.entries = fewer;
+            changes(p, x, r.number, Reply::Done)
         }
     }
 }
 
-// The record in another stage, in its place.
-fn staged(t: Tables, p: usize, i: usize, r: Record, stage: Stage) -> Tables
-    requires { ⌜ Ready t × OpenAt t p i r ⌝ }
-    ensures { λ u. ⌜ u ≡ pack (setStage (view t) p (r .number) stage) ⌝ }
+// The object's partition q is up.
+fn send_request(t: Tables, p: usize, i: usize, r: Record, q: usize) -> Change
+    requires { ⌜ Ready t × OpenAt t p i r × SendsTo t p r q ⌝ }
+    ensures { λ c. ⌜ applied t c ≡ stored t (accept (r .number) None (send (setStage (view t) p (r .number) Sent) p (r .partition) (messageOf Request r))) ⌝ }
+    ensures { λ c. ⌜ Applies t c ⌝ }
 {
-    let x = t.partitions[p];
+    let mut x = t.partitions[p];
     let records = x.records;
+    let stage = Stage::Sent;
     let item = in_stage(stage, r);
     let changed = writes::set_record(records, i, item);
-    stores::with_records(t, p, changed)
-}
-
-// The object's partition q is up.
-fn send_request(t: Tables, p: usize, i: usize, r: Record, q: usize) -> Answered
-    requires { ⌜ Ready t × OpenAt t p i r × SendsTo t p r q ⌝ }
-    ensures { λ a. ⌜ a ≡ stored t (accept (r .number) None (send (setStage (view t) p (r .number) Sent) p (r .partition) (messageOf Request r))) ⌝ }
-{
-    let stage = Stage::Sent;
-    let sent = staged(t, p, i, r, stage);
+    x.records = changed;
     let message = request_of(r);
-    let done = queues::send(sent, p, q, message);
-    accepted(done, r.number, Reply::None)
+    exchanges(p, q, x, r.number, false, true, message)
 }
 
-fn send_if_up(t: Tables, p: usize, i: usize, r: Record, q: usize) -> Answered
+fn send_if_up(t: Tables, p: usize, i: usize, r: Record, q: usize) -> Change
     requires { ⌜ Ready t × OpenAt t p i r × SendsTo t p r q ⌝ }
-    ensures { λ a. ⌜ a ≡ stored t (perform (view t) p r Sends) ⌝ }
+    ensures { λ c. ⌜ applied t c ≡ stored t (perform (view t) p r Sends) ⌝ }
+    ensures { λ c. ⌜ Applies t c ⌝ }
 {
     let y = t.partitions[q];
     if y.up {} else {
-        return refused(t, Refusal::TowardsDown);
+        let x = t.partitions[p];
+        return keeps(p, x, Refusal::TowardsDown);
     }
     send_request(t, p, i, r, q)
 }
 
-fn send(t: Tables, p: usize, i: usize, r: Record) -> Answered
+fn send(t: Tables, p: usize, i: usize, r: Record) -> Change
     requires { ⌜ Ready t × OpenAt t p i r × (Sends ≡ next (partition (view t) p) r) ⌝ }
-    ensures { λ a. ⌜ a ≡ stored t (perform (view t) p r Sends) ⌝ }
+    ensures { λ c. ⌜ applied t c ≡ stored t (perform (view t) p r Sends) ⌝ }
+    ensures { λ c. ⌜ Applies t c ⌝ }
 {
     let q = r.partition as usize;
     send_if_up(t, p, i, r, q)
 }
 
-fn perform(t: Tables, p: usize, i: usize, r: Record, step: Next) -> Answered
+// The record stays as it is.
+fn stay(t: Tables, p: usize, i: usize, r: Record, why: Refusal) -> Change
+    requires { ⌜ Ready t × OpenAt t p i r ⌝ }
+    ensures { λ c. ⌜ applied t c ≡ stored t (perform (view t) p r (Stays why)) ⌝ }
+    ensures { λ c. ⌜ Applies t c ⌝ }
+{
+    let x = t.partitions[p];
+    keeps(p, x, why)
+}
+
+fn perform(t: Tables, p: usize, i: usize, r: Record, step: Next) -> Change
     requires { ⌜ Ready t × OpenAt t p i r × (step ≡ next (partition (view t) p) r) ⌝ }
-    ensures { λ a. ⌜ a ≡ stored t (perform (view t) p r step) ⌝ }
+    ensures { λ c. ⌜ applied t c ≡ stored t (perform (view t) p r step) ⌝ }
+    ensures { λ c. ⌜ Applies t c ⌝ }
 {
     match step {
         Next::Closes(reply) => close(t, p, i, r, reply),
@@ -211,15 +224,16 @@ fn perform(t: Tables, p: usize, i: usize, r: Record, step: Next) -> Answered
         Next::Enters => enter(t, p, i, r),
         Next::Turns => turn(t, p, i, r),
         Next::TakesOut => take_out(t, p, i, r),
-        Next::Stays(why) => refused(t, why),
+        Next::Stays(why) => stay(t, p, i, r, why),
     }
 }
 
 // ---- the event: partition p's record under this number
 
-fn advance_record(t: Tables, p: usize, i: usize) -> Answered
+fn advance_record(t: Tables, p: usize, i: usize) -> Change
     requires { ⌜ Ready t × (p < t .count) × (p < maxPartitions) × (i < partitionAt t p .records .count) × (i < maxRecords) ⌝ }
-    ensures { λ a. ⌜ a ≡ stored t (advanceFound (view t) p (getD (partitionAt t p .records .items) i noRecord ∷ [])) ⌝ }
+    ensures { λ c. ⌜ applied t c ≡ stored t (advanceFound (view t) p (getD (partitionAt t p .records .items) i noRecord ∷ [])) ⌝ }
+    ensures { λ c. ⌜ Applies t c ⌝ }
 {
     let x = t.partitions[p];
     let records = x.records;
@@ -229,28 +243,39 @@ fn advance_record(t: Tables, p: usize, i: usize) -> Answered
     perform(t, p, i, r, step)
 }
 
-fn advance_up(t: Tables, p: usize, number: u32) -> Answered
+fn advance_up(t: Tables, p: usize, number: u32) -> Change
     requires { ⌜ Ready t × (p < t .count) × (p < maxPartitions) ⌝ }
-    ensures { λ a. ⌜ a ≡ stored t (advanceFound (view t) p (keep (recordBears number) (partition (view t) p .records))) ⌝ }
+    ensures { λ c. ⌜ applied t c ≡ stored t (advanceFound (view t) p (keep (recordBears number) (partition (view t) p .records))) ⌝ }
+    ensures { λ c. ⌜ Applies t c ⌝ }
 {
     let x = t.partitions[p];
     let records = x.records;
     let found = reads::find_record(records, number);
     match found {
-        Found::Nothing => refused(t, Refusal::NoRecord),
+        Found::Nothing => keeps(p, x, Refusal::NoRecord),
         Found::At(i) => advance_record(t, p, i),
     }
+}
+
+// What the advance does: it is for who stores it.
+pub fn advance_change(t: Tables, p: usize, number: u32) -> Change
+    requires { ⌜ Ready t × (p < t .count) × (p < maxPartitions) ⌝ }
+    ensures { λ c. ⌜ applied t c ≡ stored t (advance (view t) p number) ⌝ }
+    ensures { λ c. ⌜ Applies t c ⌝ }
+{
+    let x = t.partitions[p];
+    if x.up {} else {
+        return keeps(p, x, Refusal::Down);
+    }
+    advance_up(t, p, number)
 }
 
 pub fn advance_there(t: Tables, p: usize, number: u32) -> Answered
     requires { ⌜ Ready t × (p < t .count) × (p < maxPartitions) ⌝ }
     ensures { λ a. ⌜ a ≡ stored t (advance (view t) p number) ⌝ }
 {
-    let x = t.partitions[p];
-    if x.up {} else {
-        return refused(t, Refusal::Down);
-    }
-    advance_up(t, p, number)
+    let change = advance_change(t, p, number);
+    apply(t, change)
 }
 
 pub fn advance_in_order(t: Tables, p: u32, number: u32) -> Answered

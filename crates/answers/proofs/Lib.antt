@@ -1,3 +1,3 @@
 pub mod Ways
-pub mod Changed
 pub mod Calls
+pub mod Applied

@@ -8,6 +8,7 @@ use protocol::Refusal;
 use protocol::Reply;
 use tables::Tables;
 
+pub mod changes;
 pub mod queues;
 
 // What a call answers, and the tables after it.

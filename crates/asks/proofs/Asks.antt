@@ -7,31 +7,34 @@ use native.Mathlib.Omega.{arith}
 use native.Mathlib.Numerals.{add-one}
 use lib.Dec.{ltb}
 use lib.ListN.{getD, length}
+use lib.Seq.{set-set}
 use borrow.Author.Tests.{le-ltb, lt-ltb, ltb-true}
 use Rattle.lists.specs.Lists.{isNone, keep}
 use Rattle.names.specs.Names.{goodName}
 use Rattle.names.specs.declared.Name.{Name}
 use Rattle.protocol.specs.Ask.{ask, askTables, asked, openAsk}
-use Rattle.protocol.specs.Answers.{Outcome, check}
+use Rattle.protocol.specs.Answers.{Outcome, accept, check}
 use Rattle.protocol.specs.Bounds.{directories, largestNumber, maxEntries, maxRecords, objects}
 use Rattle.protocol.specs.Order.{inRange}
-use Rattle.protocol.specs.Tables.{claimed, giveNumber, isDirectory, isObject, isPartition, openRecord, partition, setPartition, standsUnder, unentered, withLast, withRecords, Partition as Part}
+use Rattle.protocol.specs.Tables.{Model, changeRecords, claimed, giveNumber, isDirectory, isObject, isPartition, openRecord, partition, partitionCount, setPartition, standsUnder, unentered, withLast, withRecords, Partition as Part}
 use Rattle.protocol.specs.declared.Kind.{Kind}
 use Rattle.protocol.specs.declared.Record.{Record}
 use Rattle.protocol.specs.declared.Refusal.the-variants.{BadName, Down, EntriesFull, LogFull, NameExists, NumbersSpent, OutOfRange}
 use Rattle.protocol.specs.declared.Reply.the-variants.{None}
-use Rattle.tables.specs.View.{Sized, entriesOf, pack, packRecords, partitionAt, recordsOf, view, viewPartition}
+use Rattle.tables.specs.View.{Sized, Stored, entriesOf, packPartition, packRecords, partitionAt, recordsOf, view, viewPartition}
 use Rattle.tables.specs.declared.Partition.{Partition}
 use Rattle.tables.specs.declared.Records.{Records}
 use Rattle.tables.specs.declared.Tables.{Tables}
-use Rattle.answers.specs.Called.{Ready, acceptedWith, refusedWith, stored}
+use Rattle.answers.specs.Called.{Ready, refusedWith, stored}
+use Rattle.answers.specs.Change.{applied, changesWith}
 use Rattle.answers.specs.declared.Answered.{Answered}
+use Rattle.answers.specs.declared.changes.Change.{Change}
 use Rattle.asks.specs.Asked.{Opens, Placed, askInRange}
 use Rattle.lists.proofs.Tests.{and-left, and-right, every-at}
 use Rattle.protocol.proofs.Look.{part-same}
-use Rattle.tables.proofs.Stored.{records-stored}
-use Rattle.answers.proofs.Changed.{records-changed}
-use Rattle.answers.proofs.Ways.{accepts, passes, read-count, read-up, read-view, ready-count, ready-stored, ready-view, refuses}
+use Rattle.tables.proofs.Stored.{partition-stored, records-stored}
+use Rattle.answers.proofs.Applied.{changed-to}
+use Rattle.answers.proofs.Ways.{passes, read-count, read-up, read-view, ready-count, ready-stored, ready-test, ready-view, refuses}
 
 module _ (t : Tables) (z : Sized t) (r : Ready t) (k : Kind) (p d : ℕ) (s : Name) (q o : ℕ) where
   -- ---- by the arguments
@@ -54,6 +57,11 @@ module _ (t : Tables) (z : Sized t) (r : Ready t) (k : Kind) (p d : ℕ) (s : Na
         let h = ltb-true q (t .count) (rest 1) in
         let j = ltb-true o objects (rest 2) in
         record { partition = a; four = omega arith; directory = omega arith; owner = omega arith; object = omega arith; test = sym same ∙ y }
+
+  -- partition p is not there, by the test that was made
+  pub ask-not-there : (a : Answered) (b : Bool) → b ≡ ltb p (t .count) → b ≡ false → a ≡ refusedWith t OutOfRange → a ≡ stored t (ask k (view t) p d s q o)
+  unfolding ask
+  ask-not-there a b e f h = h ∙ refuses t _ OutOfRange _ _ refl (rw (ready-test t p z r b e, f) refl)
 
 pub ruleset asks = (ask-unplaced, ask-placed)
 
@@ -124,9 +132,22 @@ module _ (t : Tables) (z : Sized t) (r : Ready t) (p : ℕ) (h : p < t .count) (
 pub opens : (t : Tables) (p : ℕ) (x : Partition) → x ≡ partitionAt t p → x .last < largestNumber → x .records .count < maxRecords → Opens t p
 opens t p x e l c = record { last = rw (← e) l; records = rw (← e) c }
 
-pub ruleset asktables = (tables-taken, tables-spent, tables-full, tables-claimed, tables-open, opens)
+-- tables-claimed and tables-open are cited by name: there so much is known that `search` breaks off when it tries every way
+pub ruleset asktables = (tables-taken, tables-spent, tables-full, opens)
 
--- ---- the number is given and the record opened: x was read at p
+-- ---- the number is given and the record opened: of the two changes of one partition the last one stays
+
+set-last : (m : Model) (p : ℕ) (a b : Part) → setPartition (setPartition m p a) p b ≡ setPartition m p b
+unfolding setPartition
+set-last m p a b = λ i. record { partitions = set-set (m .partitions) p a b i; queues = m .queues }
+
+opened-last : (m : Model) (p : ℕ) (a : Part) (c : Record) → p < partitionCount m → openRecord (setPartition m p a) p c ≡ setPartition m p (withRecords a (a .records ++ c ∷ []))
+unfolding changeRecords
+opened-last m p a c h =
+    ap (λ (i : Part). setPartition (setPartition m p a) p (withRecords i (i .records ++ c ∷ []))) (part-same m p a h)
+    ∙ set-last m p a (withRecords a (a .records ++ c ∷ []))
+
+-- x was read at p
 
 module _ (t : Tables) (z : Sized t) (r : Ready t) (p : ℕ) (h : p < t .count) (x : Partition) (e : x ≡ partitionAt t p) where
   pub open-records : packRecords (recordsOf (x .records)) ≡ x .records
@@ -135,19 +156,20 @@ module _ (t : Tables) (z : Sized t) (r : Ready t) (p : ℕ) (h : p < t .count) (
   pub open-room : Opens t p → x .records .count < maxRecords
   open-room y = rw e (y .records)
 
-  pub opened-ask : (k : Kind) (d : ℕ) (s : Name) (q o n : ℕ) (c : Record) (l : Records) (u w : Tables) (a : Answered)
-      → n ≡ x .last + 1 → c ≡ asked k d s q o n → l ≡ packRecords (recordsOf (x .records) ++ c ∷ []) → u ≡ pack (setPartition (view t) p (withLast n (partition (view t) p)))
-      → w ≡ pack (setPartition (view u) p (withRecords (partition (view u) p) (recordsOf l))) → a ≡ acceptedWith w n None → a ≡ stored t (openAsk k (view t) p d s q o)
+  pub opened-ask : (k : Kind) (d : ℕ) (s : Name) (q o n : ℕ) (c : Record) (l : Records) (w : Change)
+      → n ≡ x .last + 1 → c ≡ asked k d s q o n → l ≡ packRecords (recordsOf (x .records) ++ c ∷ [])
+      → w ≡ changesWith p (record { up = x .up; last = n; entries = x .entries; backpointers = x .backpointers; records = l }) n None → applied t w ≡ stored t (openAsk k (view t) p d s q o)
   unfolding giveNumber
-  opened-ask k d s q o n c l u w a hn hc hl hu hw ha =
+  opened-ask k d s q o n c l w hn hc hl hw =
       let m = view t in
+      let g : Stored t p = ready-stored t p z r h in
       let y : partition m p ≡ viewPartition x = read-view t p z r h x e in
       let v : n ≡ suc (partition m p .last) = hn ∙ add-one (x .last) ∙ ap (λ (i : Part). suc (i .last)) (sym y) in
-      let g : u ≡ pack (giveNumber m p) = hu ∙ ap (λ (i : ℕ). pack (setPartition m p (withLast i (partition m p)))) v in
-      let f : partition (giveNumber m p) p .records ≡ recordsOf (x .records) =
-      ap (λ (i : Part). i .records) (part-same m p (withLast (suc (partition m p .last)) (partition m p)) (rw (ready-view t z r) h)) ∙ ap (λ (i : Part). i .records) y
-      in
-      let b : w ≡ pack (openRecord (giveNumber m p) p c) = records-changed (giveNumber m p) p u w g (λ k. k ++ c ∷ []) l (hl ∙ rw f refl) hw in
-      ha ∙ ap (λ (i : Tables). acceptedWith i n None) b ∙ rw (hc, v) (accepts t _ _ None _ refl)
+      let f : x ≡ packPartition (partition m p) = e ∙ partition-stored t p g in
+      let b : l ≡ packRecords (partition m p .records ++ c ∷ []) = hl ∙ ap (λ (i : Part). packRecords (i .records ++ c ∷ [])) (sym y) in
+      let u : (i : Part) → setPartition m p (withRecords i (i .records ++ c ∷ [])) ≡ openRecord (setPartition m p i) p c = λ i. sym (opened-last m p i c (rw (ready-view t z r) h)) in
+      changed-to t p g _ (withRecords (withLast n (partition m p)) (partition m p .records ++ c ∷ [])) (rw (f, b) refl) n None w hw
+      ∙ ap (λ (i : Model). stored t (accept n None i)) (u (withLast n (partition m p)))
+      ∙ rw (hc, v) refl
 
 pub ruleset opening = (open-records, open-room, opened-ask)

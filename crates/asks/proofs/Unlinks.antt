@@ -15,23 +15,25 @@ use Rattle.names.specs.declared.Name.{Name}
 use Rattle.protocol.specs.Answers.{accept}
 use Rattle.protocol.specs.Ask.{unlink, unlinkFound, unlinkOf}
 use Rattle.protocol.specs.Bounds.{directories, maxRecords}
-use Rattle.protocol.specs.Tables.{isPartition, isDirectory, openRecord, partition, recordBears, setPartition, standsUnder, withRecords, Partition as Part}
+use Rattle.protocol.specs.Tables.{isPartition, isDirectory, openRecord, partition, recordBears, standsUnder, Partition as Part}
 use Rattle.protocol.specs.declared.Entry.{Entry}
 use Rattle.protocol.specs.declared.Record.{Record}
 use Rattle.protocol.specs.declared.Refusal.the-variants.{BadName, Down, LogFull, NameAbsent, OutOfRange, RecordOpen}
 use Rattle.protocol.specs.declared.Reply.the-variants.{None}
 use Rattle.tables.specs.Slots.{noEntry}
-use Rattle.tables.specs.View.{Sized, entriesOf, pack, packRecords, partitionAt, recordsOf, view, viewPartition}
+use Rattle.tables.specs.View.{Sized, entriesOf, packRecords, partitionAt, recordsOf, view, viewPartition}
 use Rattle.tables.specs.declared.Partition.{Partition}
 use Rattle.tables.specs.declared.Records.{Records}
 use Rattle.tables.specs.declared.Tables.{Tables}
-use Rattle.answers.specs.Called.{Ready, acceptedWith, refusedWith, stored}
+use Rattle.answers.specs.Called.{Ready, refusedWith, stored}
+use Rattle.answers.specs.Change.{applied, changesWith}
 use Rattle.answers.specs.declared.Answered.{Answered}
+use Rattle.answers.specs.declared.changes.Change.{Change}
 use Rattle.asks.specs.Asked.{PlacedIn, inDirectory}
 use Rattle.lists.proofs.Finds.{found-kept, none-kept}
 use Rattle.lists.proofs.Tests.{and-left, and-right}
-use Rattle.answers.proofs.Changed.{records-changed}
-use Rattle.answers.proofs.Ways.{accepts, passes, read-count, read-up, read-view, ready-count, ready-stored, ready-view, refuses}
+use Rattle.answers.proofs.Applied.{records-change}
+use Rattle.answers.proofs.Ways.{passes, read-count, read-up, read-view, ready-count, ready-stored, ready-test, ready-view, refuses}
 
 -- ---- by the arguments
 
@@ -49,6 +51,12 @@ module _ (t : Tables) (z : Sized t) (r : Ready t) (p d : ℕ) (s : Name) (b : Bo
       let c = ready-count t z r in
       let f = ltb-true d directories (and-right (ltb p (t .count)) _ (sym e ∙ y)) in
       record { partition = a; four = omega arith; directory = omega arith; test = sym same ∙ y }
+
+-- partition p is not there, by the test that was made
+pub unlink-not-there : (t : Tables) → Sized t → Ready t → (p d : ℕ) (s : Name) (a : Answered) (b : Bool) → b ≡ ltb p (t .count) → b ≡ false → a ≡ refusedWith t OutOfRange
+    → a ≡ stored t (unlink (view t) p d s)
+unfolding unlink
+unlink-not-there t z r p d s a b e f h = h ∙ refuses t _ OutOfRange _ _ refl (rw (ready-test t p z r b e, f) refl)
 
 pub ruleset unlinks = (unlink-unplaced, unlink-placed)
 
@@ -111,11 +119,9 @@ module _ (t : Tables) (z : Sized t) (r : Ready t) (p : ℕ) (h : p < t .count) (
   pub open-room-here : partitionAt t p .records .count < maxRecords → x .records .count < maxRecords
   open-room-here c = rw e c
 
-  pub opened-unlink : (y : Entry) (c : Record) (l : Records) (w : Tables) (a : Answered) → c ≡ unlinkOf y → l ≡ packRecords (recordsOf (x .records) ++ c ∷ [])
-      → w ≡ pack (setPartition (view t) p (withRecords (partition (view t) p) (recordsOf l))) → a ≡ acceptedWith w (y .number) None
-      → a ≡ stored t (accept (y .number) None (openRecord (view t) p (unlinkOf y)))
-  opened-unlink y c l w a hc hl hw ha =
-      let b : w ≡ pack (openRecord (view t) p c) = records-changed (view t) p t w (sym (ready-stored t p z r h .packed)) (λ k. k ++ c ∷ []) l (hl ∙ rw seen refl) hw in
-      ha ∙ ap (λ (i : Tables). acceptedWith i (y .number) None) b ∙ rw hc (accepts t _ _ None _ refl)
+  pub opened-unlink : (y : Entry) (c : Record) (l : Records) (w : Change) → c ≡ unlinkOf y → l ≡ packRecords (recordsOf (x .records) ++ c ∷ [])
+      → w ≡ changesWith p (record { up = x .up; last = x .last; entries = x .entries; backpointers = x .backpointers; records = l }) (y .number) None
+      → applied t w ≡ stored t (accept (y .number) None (openRecord (view t) p (unlinkOf y)))
+  opened-unlink y c l w hc hl hw = records-change t p (ready-stored t p z r h) x e (λ k. k ++ unlinkOf y ∷ []) l (hl ∙ rw (seen, hc) refl) (y .number) None w hw
 
 pub ruleset unlinktables = (unlink-absent, unlink-stands, unlink-open, unlink-full, unlink-opens, unlink-room, open-room-here, opened-unlink)

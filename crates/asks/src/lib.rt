@@ -10,9 +10,14 @@ ghost use Rattle.protocol.specs.Bounds.{maxEntries, maxPartitions, maxRecords};
 ghost use Rattle.protocol.specs.Tables.{openRecord, partition, recordBears, standsUnder};
 ghost use Rattle.tables.specs.View.{view, entriesOf, recordsOf, partitionAt};
 ghost use Rattle.answers.specs.Called.{Ready, stored, tested};
+ghost use Rattle.answers.specs.Change.{Applies, applied};
 ghost use Rattle.asks.specs.Asked.{Opens, Placed, PlacedIn, askInRange, inDirectory};
 use answers::Answered;
-use answers::accepted;
+use answers::changes::Change;
+use answers::changes::apply;
+use answers::changes::changes;
+use answers::changes::keeps;
+use answers::is_there;
 use answers::refused;
 use answers::small;
 use lists::Found;
@@ -32,7 +37,6 @@ use tables::OBJECTS;
 use tables::Records;
 use tables::Tables;
 use tables::reads;
-use tables::stores;
 use tables::writes;
 
 // Whether partition p of n, directory d and object o of partition q are there.
@@ -87,55 +91,56 @@ fn asked_record(
 // ---- link and create
 
 // The number is given, and the record opened.
-fn open_ask(kind: Kind, t: Tables, p: usize, d: u8, name: Name, q: u8, o: u8) -> Answered
+fn open_ask(kind: Kind, t: Tables, p: usize, d: u8, name: Name, q: u8, o: u8) -> Change
     requires { ⌜ Ready t × (p < t .count) × (p < maxPartitions) × Opens t p ⌝ }
-    ensures { λ r. ⌜ r ≡ stored t (openAsk kind (view t) p d name q o) ⌝ }
+    ensures { λ c. ⌜ applied t c ≡ stored t (openAsk kind (view t) p d name q o) ⌝ }
+    ensures { λ c. ⌜ Applies t c ⌝ }
 {
-    let x = t.partitions[p];
+    let mut x = t.partitions[p];
     let number = x.last + 1;
     let record = asked_record(kind, d, name, q, o, number);
     let records = x.records;
-    let more = writes::add_record(records, record);
-    let given = stores::with_last(t, p, number);
-    let opened = stores::with_records(given, p, more);
-    accepted(opened, number, Reply::None)
+    let opened = writes::add_record(records, record);
+    x.last = number;
+    x.records = opened;
+    changes(p, x, number, Reply::None)
 }
 
 // The refusals that look into the tables of p.
-fn ask_tables(kind: Kind, t: Tables, p: usize, d: u8, name: Name, q: u8, o: u8) -> Answered
+fn ask_tables(kind: Kind, t: Tables, p: usize, d: u8, name: Name, q: u8, o: u8) -> Change
     requires { ⌜ Ready t × (p < t .count) × (p < maxPartitions) ⌝ }
-    ensures { λ r. ⌜ r ≡ stored t (askTables kind (view t) p d name q o) ⌝ }
+    ensures { λ c. ⌜ applied t c ≡ stored t (askTables kind (view t) p d name q o) ⌝ }
+    ensures { λ c. ⌜ Applies t c ⌝ }
 {
     let x = t.partitions[p];
-    let entries = x.entries;
-    let records = x.records;
-    if is_free(entries, d, name) {} else {
-        return refused(t, Refusal::NameExists);
+    if is_free(x.entries, d, name) {} else {
+        return keeps(p, x, Refusal::NameExists);
     }
     if x.last < LARGEST_NUMBER {} else {
-        return refused(t, Refusal::NumbersSpent);
+        return keeps(p, x, Refusal::NumbersSpent);
     }
-    if records.count < MAX_RECORDS {} else {
-        return refused(t, Refusal::LogFull);
+    if x.records.count < MAX_RECORDS {} else {
+        return keeps(p, x, Refusal::LogFull);
     }
-    if reads::claimed(entries, records) < MAX_ENTRIES {} else {
-        return refused(t, Refusal::EntriesFull);
+    if reads::claimed(x.entries, x.records) < MAX_ENTRIES {} else {
+        return keeps(p, x, Refusal::EntriesFull);
     }
     open_ask(kind, t, p, d, name, q, o)
 }
 
 // The arguments are in range.
-fn ask_placed(kind: Kind, t: Tables, p: u32, d: u32, name: Name, q: u32, o: u32) -> Answered
+fn ask_placed(kind: Kind, t: Tables, p: u32, d: u32, name: Name, q: u32, o: u32) -> Change
     requires { ⌜ Ready t × Placed t p d q o ⌝ }
-    ensures { λ r. ⌜ r ≡ stored t (ask kind (view t) p d name q o) ⌝ }
+    ensures { λ c. ⌜ applied t c ≡ stored t (ask kind (view t) p d name q o) ⌝ }
+    ensures { λ c. ⌜ Applies t c ⌝ }
 {
-    if names::good(name) {} else {
-        return refused(t, Refusal::BadName);
-    }
     let at = p as usize;
     let x = t.partitions[at];
+    if names::good(name) {} else {
+        return keeps(at, x, Refusal::BadName);
+    }
     if x.up {} else {
-        return refused(t, Refusal::Down);
+        return keeps(at, x, Refusal::Down);
     }
     let directory = small(d);
     let partition = small(q);
@@ -143,14 +148,29 @@ fn ask_placed(kind: Kind, t: Tables, p: u32, d: u32, name: Name, q: u32, o: u32)
     ask_tables(kind, t, at, directory, name, partition, object)
 }
 
+// What link or create does to partition p, which is there: it is stored by who holds the tables.
+pub fn ask_change(kind: Kind, t: Tables, p: u32, d: u32, name: Name, q: u32, o: u32) -> Change
+    requires { ⌜ Ready t × (p < t .count) ⌝ }
+    ensures { λ c. ⌜ applied t c ≡ stored t (ask kind (view t) p d name q o) ⌝ }
+    ensures { λ c. ⌜ Applies t c ⌝ }
+{
+    if ask_in_range(t.count, p, d, q, o) {} else {
+        let at = p as usize;
+        let x = t.partitions[at];
+        return keeps(at, x, Refusal::OutOfRange);
+    }
+    ask_placed(kind, t, p, d, name, q, o)
+}
+
 fn ask_in_order(kind: Kind, t: Tables, p: u32, d: u32, name: Name, q: u32, o: u32) -> Answered
     requires { ⌜ Ready t ⌝ }
     ensures { λ r. ⌜ r ≡ stored t (ask kind (view t) p d name q o) ⌝ }
 {
-    if ask_in_range(t.count, p, d, q, o) {} else {
+    if is_there(t.count, p) {} else {
         return refused(t, Refusal::OutOfRange);
     }
-    ask_placed(kind, t, p, d, name, q, o)
+    let change = ask_change(kind, t, p, d, name, q, o);
+    apply(t, change)
 }
 
 // Link or create, on any tables.
@@ -193,43 +213,46 @@ fn unlink_record(e: Entry) -> Record
     }
 }
 
-fn open_unlink(t: Tables, p: usize, e: Entry) -> Answered
+fn open_unlink(t: Tables, p: usize, e: Entry) -> Change
     requires { ⌜ Ready t × (p < t .count) × (p < maxPartitions) × (partitionAt t p .records .count < maxRecords) ⌝ }
-    ensures { λ r. ⌜ r ≡ stored t (accept (e .number) None (openRecord (view t) p (unlinkOf e))) ⌝ }
+    ensures { λ c. ⌜ applied t c ≡ stored t (accept (e .number) None (openRecord (view t) p (unlinkOf e))) ⌝ }
+    ensures { λ c. ⌜ Applies t c ⌝ }
 {
-    let x = t.partitions[p];
+    let mut x = t.partitions[p];
     let record = unlink_record(e);
     let records = x.records;
     let more = writes::add_record(records, record);
-    let opened = stores::with_records(t, p, more);
-    accepted(opened, e.number, Reply::None)
+    x.records = more;
+    changes(p, x, e.number, Reply::None)
 }
 
 // The entry that stands under the name.
-fn unlink_entry(t: Tables, p: usize, e: Entry) -> Answered
+fn unlink_entry(t: Tables, p: usize, e: Entry) -> Change
     requires { ⌜ Ready t × (p < t .count) × (p < maxPartitions) ⌝ }
-    ensures { λ r. ⌜ r ≡ stored t (unlinkFound (view t) p (e ∷ [])) ⌝ }
+    ensures { λ c. ⌜ applied t c ≡ stored t (unlinkFound (view t) p (e ∷ [])) ⌝ }
+    ensures { λ c. ⌜ Applies t c ⌝ }
 {
     let x = t.partitions[p];
     let records = x.records;
     if is_unopened(records, e.number) {} else {
-        return refused(t, Refusal::RecordOpen);
+        return keeps(p, x, Refusal::RecordOpen);
     }
     if records.count < MAX_RECORDS {} else {
-        return refused(t, Refusal::LogFull);
+        return keeps(p, x, Refusal::LogFull);
     }
     open_unlink(t, p, e)
 }
 
-fn unlink_tables(t: Tables, p: usize, d: u8, name: Name) -> Answered
+fn unlink_tables(t: Tables, p: usize, d: u8, name: Name) -> Change
     requires { ⌜ Ready t × (p < t .count) × (p < maxPartitions) ⌝ }
-    ensures { λ r. ⌜ r ≡ stored t (unlinkFound (view t) p (keep (standsUnder d name) (partition (view t) p .entries))) ⌝ }
+    ensures { λ c. ⌜ applied t c ≡ stored t (unlinkFound (view t) p (keep (standsUnder d name) (partition (view t) p .entries))) ⌝ }
+    ensures { λ c. ⌜ Applies t c ⌝ }
 {
     let x = t.partitions[p];
     let entries = x.entries;
     let found = reads::find_name(entries, d, name);
     match found {
-        Found::Nothing => refused(t, Refusal::NameAbsent),
+        Found::Nothing => keeps(p, x, Refusal::NameAbsent),
         Found::At(i) => {
             let e = entries.items[i];
             unlink_entry(t, p, e)
@@ -246,28 +269,44 @@ fn in_directory(n: usize, p: u32, d: u32) -> bool
     d < DIRECTORIES as u32
 }
 
-fn unlink_placed(t: Tables, p: u32, d: u32, name: Name) -> Answered
+fn unlink_placed(t: Tables, p: u32, d: u32, name: Name) -> Change
     requires { ⌜ Ready t × PlacedIn t p d ⌝ }
-    ensures { λ r. ⌜ r ≡ stored t (unlink (view t) p d name) ⌝ }
+    ensures { λ c. ⌜ applied t c ≡ stored t (unlink (view t) p d name) ⌝ }
+    ensures { λ c. ⌜ Applies t c ⌝ }
 {
-    if names::good(name) {} else {
-        return refused(t, Refusal::BadName);
-    }
     let at = p as usize;
     let x = t.partitions[at];
+    if names::good(name) {} else {
+        return keeps(at, x, Refusal::BadName);
+    }
     if x.up {} else {
-        return refused(t, Refusal::Down);
+        return keeps(at, x, Refusal::Down);
     }
     let directory = small(d);
     unlink_tables(t, at, directory, name)
+}
+
+// What unlink does to partition p, which is there: it is stored by who holds the tables.
+pub fn unlink_change(t: Tables, p: u32, d: u32, name: Name) -> Change
+    requires { ⌜ Ready t × (p < t .count) ⌝ }
+    ensures { λ c. ⌜ applied t c ≡ stored t (unlink (view t) p d name) ⌝ }
+    ensures { λ c. ⌜ Applies t c ⌝ }
+{
+    if in_directory(t.count, p, d) {} else {
+        let at = p as usize;
+        let x = t.partitions[at];
+        return keeps(at, x, Refusal::OutOfRange);
+    }
+    unlink_placed(t, p, d, name)
 }
 
 pub fn unlink_in_order(t: Tables, p: u32, d: u32, name: Name) -> Answered
     requires { ⌜ Ready t ⌝ }
     ensures { λ r. ⌜ r ≡ stored t (unlink (view t) p d name) ⌝ }
 {
-    if in_directory(t.count, p, d) {} else {
+    if is_there(t.count, p) {} else {
         return refused(t, Refusal::OutOfRange);
     }
-    unlink_placed(t, p, d, name)
+    let change = unlink_change(t, p, d, name);
+    apply(t, change)
 }

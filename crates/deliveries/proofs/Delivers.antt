@@ -9,28 +9,29 @@ use lib.Dec.{ltb}
 use lib.ListN.{getD, length, take}
 use lib.Seq.{getD-take, length-take-le}
 use Rattle.lists.specs.Lists.{removeAt}
+use Rattle.protocol.specs.Answers.{Outcome, accept}
 use Rattle.protocol.specs.Bounds.{maxMessages, maxPartitions}
 use Rattle.protocol.specs.Deliver.{deliver, deliverOldest, receive}
-use Rattle.protocol.specs.Tables.{Model, isPartition, partition, queue, setQueue}
+use Rattle.protocol.specs.Tables.{Model, isPartition, queue}
 use Rattle.protocol.specs.declared.Message.{Message}
 use Rattle.protocol.specs.declared.Refusal.the-variants.{Down, OutOfRange, QueueEmpty}
 use Rattle.protocol.specs.declared.Reply.the-variants.{None}
 use Rattle.tables.specs.Slots.{freeMessage, noMessage}
-use Rattle.tables.specs.View.{Sized, Stored, messagesOf, pack, partitionAt, queueAt, view}
+use Rattle.tables.specs.View.{Sized, Stored, messagesOf, partitionAt, queueAt, view}
 use Rattle.tables.specs.declared.Partition.{Partition}
 use Rattle.tables.specs.declared.Queue.{Queue}
 use Rattle.tables.specs.declared.Tables.{Tables}
-use Rattle.answers.specs.Called.{Ready, acceptedWith, refusedWith, stored}
+use Rattle.answers.specs.Called.{Ready, refusedWith, stored}
+use Rattle.answers.specs.Change.{applied}
 use Rattle.answers.specs.declared.Answered.{Answered}
-use Rattle.deliveries.specs.Taken.{Received}
+use Rattle.answers.specs.declared.changes.Change.{Change}
+use Rattle.deliveries.specs.Taken.{Received, Waits, takenFrom}
 use Rattle.lists.proofs.Tests.{and-left, and-right, both-true}
 use Rattle.lists.proofs.Tidies.{tidy-count}
-use Rattle.protocol.proofs.Numbers.{part-queue}
 use Rattle.protocol.proofs.Room.{answer-room, one-record, one-removed}
-use Rattle.tables.proofs.Packs.{shaped-all, view-pack}
+use Rattle.tables.proofs.Packs.{shaped-all}
 use Rattle.tables.proofs.Views.{queue-view}
-use Rattle.answers.proofs.Changed.{stored-queued}
-use Rattle.answers.proofs.Ways.{accepts, passes, read-four, read-up, ready-stored, ready-there, ready-view, refuses}
+use Rattle.answers.proofs.Ways.{passes, read-four, read-up, ready-stored, ready-there, ready-view, refuses}
 
 -- a list by its first element
 split : {A : Type 0} (l : List A) (d : A) → 0 < length l → l ≡ getD l 0 d ∷ removeAt 0 l
@@ -46,13 +47,10 @@ module _ (t : Tables) (z : Sized t) (o : Ready t) (s r : ℕ) (hs : s < t .count
   abbrev rest : List Message
   rest = removeAt 0 (queue (view t) s r)
 
-  pub from-stored : Stored t s
-  from-stored = ready-stored t s z o hs
+  pub receiver-stored : Stored t r
+  receiver-stored = ready-stored t r z o hr
 
-  pub to-stored : Stored t r
-  to-stored = ready-stored t r z o hr
-
-  pub queue-bound : queueAt t (s * maxPartitions + r) .count ≤ maxMessages
+  queue-bound : queueAt t (s * maxPartitions + r) .count ≤ maxMessages
   queue-bound =
       let a = read-four t s z o hs in
       let b = read-four t r z o hr in
@@ -71,9 +69,6 @@ module _ (t : Tables) (z : Sized t) (o : Ready t) (s r : ℕ) (hs : s < t .count
         let l : queue m s r ≡ [] = held ∙ ap (λ (i : ℕ). take i (y .items)) n in
         k ∙ rw l refl
 
-    pub queue-filled : 0 < y .count → 0 < queueAt t (s * maxPartitions + r) .count
-    queue-filled h = rw (← e) h
-
     -- its oldest message is x
     module _ (h : 0 < y .count) (x : Message) (v : x ≡ getD (y .items) 0 noMessage) where
       long : length (messagesOf y) ≡ y .count
@@ -90,31 +85,20 @@ module _ (t : Tables) (z : Sized t) (o : Ready t) (s r : ℕ) (hs : s < t .count
           let l : queue m s r ≡ getD (queue m s r) 0 noMessage ∷ rest = split (queue m s r) noMessage (rw (held, long) h) in
           l ∙ ap (λ (g : Message). g ∷ rest) (ap (λ (q : List Message). getD q 0 noMessage) held ∙ k)
 
-      -- the tables w are without it
-      module _ (w : Tables) (g : w ≡ pack (setQueue (view t) s r (removeAt 0 (queue (view t) s r)))) where
-        viewed : view w ≡ setQueue m s r rest
-        viewed = ap view g ∙ view-pack _
+      pub received : Received t s r x
+      received =
+          let a : s < 4 = read-four t s z o hs in
+          let b : r < 4 = read-four t r z o hr in
+          let w : Waits t s r = record { ready = o; from = ready-stored t s z o hs; to = receiver-stored; sender = a; receiver = b; some = rw (← e) h } in
+          record {
+            answers = λ k. record { waits = w; room = answer-room m (o .order) s r x rest a b oldest k };
+            exactly = one-removed m (o .order) r s x;
+            lands = record { waits = w; single = one-record m (o .order) r (x .number) };
+          }
 
-        same-partition : partition (view w) r ≡ partition m r
-        same-partition = ap (λ (i : Model). partition i r) viewed ∙ part-queue m s r rest r
-
-        pub received : Received w s r x
-        received =
-            let a : s < 4 = read-four t s z o hs in
-            let b : r < 4 = read-four t r z o hr in
-            let p : Stored w s = stored-queued t w s r s _ from-stored g in
-            let q : Stored w r = stored-queued t w s r r _ to-stored g in
-            record {
-              answers = λ k. record { from = p; to = q; sender = a; receiver = b; room = rw viewed (answer-room m (o .order) s r x rest a b oldest k) };
-              exactly = rw same-partition (one-removed m (o .order) r s x);
-              lands = record { to = q; receiver = b; single = rw same-partition (one-record m (o .order) r (x .number)) };
-            }
-
-        pub delivered : (d : Tables) (a : Answered) → d ≡ pack (receive (x .body) (view w) s r x) → a ≡ acceptedWith d (x .number) None
-            → a ≡ stored t (deliverOldest (view t) s r (queue (view t) s r))
-        delivered d a i j =
-            let k : d ≡ pack (receive (x .body) (setQueue m s r rest) s r x) = i ∙ ap (λ (n : Model). pack (receive (x .body) n s r x)) viewed in
-            j ∙ accepts t d (x .number) None _ k ∙ ap (λ (l : List Message). stored t (deliverOldest m s r l)) (sym oldest)
+      pub delivered : (a : Answered) → a ≡ stored t (accept (x .number) None (receive (x .body) (takenFrom t s r) s r x))
+          → a ≡ stored t (deliverOldest (view t) s r (queue (view t) s r))
+      delivered a i = i ∙ ap (λ (l : List Message). stored t (deliverOldest m s r l)) (sym oldest)
 
   -- the receiver y is up, or down
   module _ (y : Partition) (e : y ≡ partitionAt t r) where
@@ -129,9 +113,9 @@ module _ (t : Tables) (z : Sized t) (o : Ready t) (s r : ℕ) (hs : s < t .count
     unfolding deliver
     deliver-goes a u k = k ∙ passes t _ Down _ _ (read-up t r z o hr y e ∙ u) ∙ passes t _ OutOfRange _ _ both-there
 
-pub ruleset oldests = (from-stored, to-stored, queue-bound, nothing-there, queue-filled, received, delivered)
+pub ruleset oldests = (receiver-stored, nothing-there, received, delivered)
 
-pub ruleset deliveries = (deliver-down, deliver-goes)
+pub ruleset deliveries = (receiver-stored, deliver-down, deliver-goes)
 
 -- both are there, or not
 module _ (t : Tables) (z : Sized t) (o : Ready t) (s r : ℕ) (b : Bool) (e : b ≡ (ltb s (t .count) && ltb r (t .count))) where

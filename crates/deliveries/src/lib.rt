@@ -1,5 +1,5 @@
 // Deliver: the oldest message from a sender to a receiver (document 01, 'The nine events', 5).
-ghost use mathlib.Core.Bool.{_&&_};
+ghost use mathlib.Core.Bool.{_&&_, true};
 ghost use mathlib.Core.Path.{_≡_};
 ghost use Prim.Native.Nat.{_<_, _≤_};
 ghost use lib.Dec.{ltb};
@@ -7,14 +7,20 @@ ghost use lib.ListN.{length};
 ghost use Rattle.lists.specs.Lists.{keep, mapIf, without};
 ghost use Rattle.protocol.specs.Bounds.{maxBackpointers, maxPartitions, maxRecords};
 ghost use Rattle.protocol.specs.Deliver.{answerTo, backpointerOf, carryOut, deliver, deliverOldest, isExactly, land, receive, stageAfter, verdict};
+ghost use Rattle.protocol.specs.Answers.{accept};
 ghost use Rattle.protocol.specs.Tables.{inStage, partition, queue, recordBears, send};
 ghost use Rattle.protocol.specs.declared.Kind.the-variants.{Link};
+ghost use Rattle.protocol.specs.declared.Reply.the-variants.{None};
 ghost use Rattle.protocol.specs.declared.Verdict.the-variants.{AddsIt, DropsIt};
-ghost use Rattle.tables.specs.View.{backpointersOf, pack, packBackpointers, packRecords, recordsOf, view};
+ghost use Rattle.tables.specs.View.{backpointersOf, packBackpointers, packRecords, recordsOf, view};
 ghost use Rattle.answers.specs.Called.{Ready, stored};
-ghost use Rattle.deliveries.specs.Taken.{Answers, Lands, OneExactly, Received};
+ghost use Rattle.answers.specs.Change.{Applies, applied, exchangesWith};
+ghost use Rattle.deliveries.specs.Taken.{Answers, Lands, OneExactly, Received, takenFrom};
 use answers::Answered;
-use answers::accepted;
+use answers::changes;
+use answers::changes::Change;
+use answers::changes::exchanges;
+use answers::changes::keeps;
 use answers::queues;
 use answers::refused;
 use lists::Found;
@@ -23,17 +29,18 @@ use protocol::Body;
 use protocol::Kind;
 use protocol::Message;
 use protocol::Refusal;
-use protocol::Reply;
 use protocol::Stage;
 use protocol::Verdict;
 use tables::Backpointers;
+use tables::Partition;
 use tables::Records;
 use tables::Tables;
 use tables::reads;
-use tables::stores;
 use tables::writes;
 
 mod verdict;
+
+// What is received gives a change of the tables t, in which the message x still stands in the queue.
 
 // ---- a request from s, at the object's partition r
 
@@ -86,44 +93,56 @@ fn number_of(p: usize) -> u8
     p as u8
 }
 
-fn say(t: Tables, s: usize, r: usize, x: Message, body: Body) -> Tables
-    requires { ⌜ Answers t s r ⌝ }
-    ensures { λ u. ⌜ u ≡ pack (send (view t) r s (answerTo x body)) ⌝ }
+// x is taken, and the answer to it sent; r is then own.
+fn take_and_say(own: Partition, s: usize, r: usize, x: Message, body: Body) -> Change
+    ensures { λ c. ⌜ c ≡ exchangesWith r s own (x .number) true true (answerTo x body) ⌝ }
 {
     let answer = answer_to(x, body);
-    queues::send(t, r, s, answer)
+    exchanges(r, s, own, x.number, true, true, answer)
 }
 
-fn add(t: Tables, s: usize, r: usize, x: Message) -> Tables
-    requires { ⌜ Answers t s r × (AddsIt ≡ verdict (partition (view t) r) s x) ⌝ }
-    ensures { λ u. ⌜ u ≡ pack (carryOut (view t) s r x AddsIt) ⌝ }
+fn say(t: Tables, s: usize, r: usize, x: Message, body: Body) -> Change
+    requires { ⌜ Answers t s r ⌝ }
+    ensures { λ c. ⌜ applied t c ≡ stored t (accept (x .number) None (send (takenFrom t s r) r s (answerTo x body))) ⌝ }
+    ensures { λ c. ⌜ Applies t c ⌝ }
 {
     let own = t.partitions[r];
+    take_and_say(own, s, r, x, body)
+}
+
+fn add(t: Tables, s: usize, r: usize, x: Message) -> Change
+    requires { ⌜ Answers t s r × (AddsIt ≡ verdict (partition (view t) r) s x) ⌝ }
+    ensures { λ c. ⌜ applied t c ≡ stored t (accept (x .number) None (carryOut (takenFrom t s r) s r x AddsIt)) ⌝ }
+    ensures { λ c. ⌜ Applies t c ⌝ }
+{
+    let mut own = t.partitions[r];
     let backpointers = own.backpointers;
     let parent = number_of(s);
     let item = backpointer_of(parent, x);
     let more = writes::add_backpointer(backpointers, item);
-    let added = stores::with_backpointers(t, r, more);
+    own.backpointers = more;
     let yes = Body::Yes;
-    say(added, s, r, x, yes)
+    take_and_say(own, s, r, x, yes)
 }
 
-fn remove(t: Tables, s: usize, r: usize, x: Message) -> Tables
+fn remove(t: Tables, s: usize, r: usize, x: Message) -> Change
     requires { ⌜ Answers t s r × OneExactly t s r x ⌝ }
-    ensures { λ u. ⌜ u ≡ pack (carryOut (view t) s r x DropsIt) ⌝ }
+    ensures { λ c. ⌜ applied t c ≡ stored t (accept (x .number) None (carryOut (takenFrom t s r) s r x DropsIt)) ⌝ }
+    ensures { λ c. ⌜ Applies t c ⌝ }
 {
-    let own = t.partitions[r];
+    let mut own = t.partitions[r];
     let backpointers = own.backpointers;
     let parent = number_of(s);
     let fewer = without_exactly(backpointers, parent, x);
-    let removed = stores::with_backpointers(t, r, fewer);
+    own.backpointers = fewer;
     let yes = Body::Yes;
-    say(removed, s, r, x, yes)
+    take_and_say(own, s, r, x, yes)
 }
 
-fn carry_out(t: Tables, s: usize, r: usize, x: Message, v: Verdict) -> Tables
+fn carry_out(t: Tables, s: usize, r: usize, x: Message, v: Verdict) -> Change
     requires { ⌜ Answers t s r × OneExactly t s r x × (v ≡ verdict (partition (view t) r) s x) ⌝ }
-    ensures { λ u. ⌜ u ≡ pack (carryOut (view t) s r x v) ⌝ }
+    ensures { λ c. ⌜ applied t c ≡ stored t (accept (x .number) None (carryOut (takenFrom t s r) s r x v)) ⌝ }
+    ensures { λ c. ⌜ Applies t c ⌝ }
 {
     match v {
         Verdict::SaysOnly(body) => say(t, s, r, x, body),
@@ -132,9 +151,10 @@ fn carry_out(t: Tables, s: usize, r: usize, x: Message, v: Verdict) -> Tables
     }
 }
 
-fn answer(t: Tables, s: usize, r: usize, x: Message) -> Tables
+fn answer(t: Tables, s: usize, r: usize, x: Message) -> Change
     requires { ⌜ Answers t s r × OneExactly t s r x ⌝ }
-    ensures { λ u. ⌜ u ≡ pack (carryOut (view t) s r x (verdict (partition (view t) r) s x)) ⌝ }
+    ensures { λ c. ⌜ applied t c ≡ stored t (accept (x .number) None (carryOut (takenFrom t s r) s r x (verdict (partition (view t) r) s x))) ⌝ }
+    ensures { λ c. ⌜ Applies t c ⌝ }
 {
     let own = t.partitions[r];
     let backpointers = own.backpointers;
@@ -183,62 +203,75 @@ fn with_stage(l: Records, number: u32, stage: Stage) -> Records
     }
 }
 
-fn land(t: Tables, r: usize, x: Message) -> Tables
-    requires { ⌜ Lands t r x ⌝ }
-    ensures { λ u. ⌜ u ≡ pack (land (view t) r x) ⌝ }
+fn land(t: Tables, s: usize, r: usize, x: Message) -> Change
+    requires { ⌜ Lands t s r x ⌝ }
+    ensures { λ c. ⌜ applied t c ≡ stored t (accept (x .number) None (land (takenFrom t s r) r x)) ⌝ }
+    ensures { λ c. ⌜ Applies t c ⌝ }
 {
-    let own = t.partitions[r];
+    let mut own = t.partitions[r];
     let records = own.records;
     let kind = x.kind;
     let body = x.body;
     let stage = stage_after(kind, body);
     let landed = with_stage(records, x.number, stage);
-    stores::with_records(t, r, landed)
+    own.records = landed;
+    exchanges(r, s, own, x.number, true, false, x)
 }
 
 // ---- the event: r receives the oldest message from s
 
-// The message x was taken.
-fn receive(t: Tables, s: usize, r: usize, x: Message) -> Tables
+// The message is x.
+fn receive(t: Tables, s: usize, r: usize, x: Message) -> Change
     requires { ⌜ Received t s r x ⌝ }
-    ensures { λ u. ⌜ u ≡ pack (receive (x .body) (view t) s r x) ⌝ }
+    ensures { λ c. ⌜ applied t c ≡ stored t (accept (x .number) None (receive (x .body) (takenFrom t s r) s r x)) ⌝ }
+    ensures { λ c. ⌜ Applies t c ⌝ }
 {
     let body = x.body;
     match body {
         Body::Request => answer(t, s, r, x),
-        Body::Yes => land(t, r, x),
-        Body::No => land(t, r, x),
-        Body::NoBecause(_) => land(t, r, x),
+        Body::Yes => land(t, s, r, x),
+        Body::No => land(t, s, r, x),
+        Body::NoBecause(_) => land(t, s, r, x),
     }
 }
 
-fn deliver_oldest(t: Tables, s: usize, r: usize) -> Answered
+fn deliver_oldest(t: Tables, s: usize, r: usize) -> Change
     requires { ⌜ Ready t × (s < t .count) × (s < maxPartitions) × (r < t .count) × (r < maxPartitions) ⌝ }
-    ensures { λ a. ⌜ a ≡ stored t (deliverOldest (view t) s r (queue (view t) s r)) ⌝ }
+    ensures { λ c. ⌜ applied t c ≡ stored t (deliverOldest (view t) s r (queue (view t) s r)) ⌝ }
+    ensures { λ c. ⌜ Applies t c ⌝ }
 {
-    let own = queues::queue(t, s, r);
-    if 0 < own.count {} else {
-        return refused(t, Refusal::QueueEmpty);
+    let waiting = queues::queue(t, s, r);
+    if 0 < waiting.count {} else {
+        let own = t.partitions[r];
+        return keeps(r, own, Refusal::QueueEmpty);
     }
-    let x = own.items[0];
-    let taken = queues::take_oldest(t, s, r);
-    let done = receive(taken, s, r, x);
-    accepted(done, x.number, Reply::None)
+    let x = waiting.items[0];
+    receive(t, s, r, x)
 }
 
 // Sender and receiver are there.
-pub fn deliver_there(t: Tables, s: usize, r: usize) -> Answered
+pub fn deliver_change(t: Tables, s: usize, r: usize) -> Change
     requires { ⌜ Ready t × (s < t .count) × (s < maxPartitions) × (r < t .count) × (r < maxPartitions) ⌝ }
-    ensures { λ a. ⌜ a ≡ stored t (deliver (view t) s r) ⌝ }
+    ensures { λ c. ⌜ applied t c ≡ stored t (deliver (view t) s r) ⌝ }
+    ensures { λ c. ⌜ Applies t c ⌝ }
 {
     let own = t.partitions[r];
     if own.up {} else {
-        return refused(t, Refusal::Down);
+        return keeps(r, own, Refusal::Down);
     }
     deliver_oldest(t, s, r)
 }
 
-fn are_there(n: usize, s: u32, r: u32) -> bool
+pub fn deliver_there(t: Tables, s: usize, r: usize) -> Answered
+    requires { ⌜ Ready t × (s < t .count) × (s < maxPartitions) × (r < t .count) × (r < maxPartitions) ⌝ }
+    ensures { λ a. ⌜ a ≡ stored t (deliver (view t) s r) ⌝ }
+{
+    let change = deliver_change(t, s, r);
+    changes::apply(t, change)
+}
+
+// Whether sender and receiver are among n.
+pub fn are_there(n: usize, s: u32, r: u32) -> bool
     ensures { λ b. ⌜ b ≡ (ltb s n && ltb r n) ⌝ }
 {
     if n <= s as usize {

@@ -8,11 +8,11 @@ use Rattle.protocol.specs.Answers.{accept, check}
 use Rattle.protocol.specs.Bounds.{maxPartitions}
 use Rattle.protocol.specs.Events.{Opening, apply, bare}
 use Rattle.protocol.specs.Faults.{between, crash, cut, lose, openTables, recover, sentBetween}
-use Rattle.protocol.specs.Tables.{Model, fresh, isPartition, partition, setUp}
+use Rattle.protocol.specs.Tables.{Model, fresh, isPartition, partition, setUp, withUp}
 use Rattle.protocol.specs.declared.Record.{Record}
 use Rattle.protocol.specs.declared.Refusal.the-variants.{CutFromItself, Down, IsUp, OutOfRange}
 use Rattle.protocol.specs.declared.Reply.the-variants.{None}
-use Rattle.tables.specs.View.{Sized, Stored, pack, partitionAt, view}
+use Rattle.tables.specs.View.{Sized, Stored, pack, packPartition, partitionAt, view}
 use Rattle.tables.specs.declared.Partition.{Partition}
 use Rattle.tables.specs.declared.Tables.{Tables}
 use Rattle.answers.specs.Called.{Ready, acceptedWith, called, refusedWith, stored}
@@ -21,7 +21,11 @@ use Rattle.faults.specs.Lost.{Crash, Cut, emptiesOf, relapsesOf}
 use Rattle.lists.proofs.Tests.{and-right, both-true}
 use Rattle.protocol.proofs.Losses.{count-lose}
 use Rattle.tables.proofs.Packs.{view-pack}
-use Rattle.answers.proofs.Ways.{accepts, passes, read-up, ready-count, ready-test, ready-there, ready-view, refuses}
+use Rattle.answers.proofs.Applied.{changed-to}
+use Rattle.answers.specs.Change.{applied, changesWith}
+use Rattle.answers.specs.declared.changes.Change.{Change}
+use Rattle.tables.proofs.Stored.{partition-stored}
+use Rattle.answers.proofs.Ways.{accepts, passes, read-up, ready-count, ready-stored, ready-test, ready-there, ready-view, refuses}
 
 module _ (t : Tables) (z : Sized t) (r : Ready t) (a : Answered) where
   -- ---- whether partitions are there; b is the test of p
@@ -97,9 +101,15 @@ module _ (t : Tables) (z : Sized t) (r : Ready t) (a : Answered) where
     unfolding recover
     recover-up d w = w ∙ refuses t _ IsUp _ _ refl (ap not (read-up t p z r h x e ∙ d)) ∙ passes t _ OutOfRange _ _ (ready-there t p z r h)
 
-    pub recover-done : (u : Tables) → x .up ≡ false → u ≡ pack (setUp (view t) p true) → a ≡ acceptedWith u 0 None → a ≡ stored t (recover (view t) p)
-    unfolding recover
-    recover-done u c v w = w ∙ accepts t u 0 None _ v ∙ passes t _ IsUp _ _ (ap not (read-up t p z r h x e ∙ c)) ∙ passes t _ OutOfRange _ _ (ready-there t p z r h)
+-- a recovery of partition p, which was read as x
+module _ (t : Tables) (z : Sized t) (r : Ready t) (p : ℕ) (h : p < t .count) (x : Partition) (e : x ≡ partitionAt t p) where
+  pub recover-done : (c : Change) → x .up ≡ false → c ≡ changesWith p (record { up = true; last = x .last; entries = x .entries; backpointers = x .backpointers; records = x .records }) 0 None
+      → applied t c ≡ stored t (recover (view t) p)
+  unfolding recover setUp
+  recover-done c d w =
+      let k : x ≡ packPartition (partition (view t) p) = e ∙ partition-stored t p (ready-stored t p z r h) in
+      changed-to t p (ready-stored t p z r h) _ (withUp true (partition (view t) p)) (rw k refl) 0 None c w
+      ∙ passes t _ IsUp _ _ (ap not (read-up t p z r h x e ∙ d)) ∙ passes t _ OutOfRange _ _ (ready-there t p z r h)
 
 -- what is lost leaves tables in their stored form
 pub lost-stored : (t u : Tables) (p : ℕ) (f : ℕ → Record → Bool) (g : ℕ → ℕ → Bool) → Sized t → Ready t → p < t .count → u ≡ pack (lose f g (view t)) → Stored u p

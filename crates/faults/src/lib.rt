@@ -7,9 +7,14 @@ ghost use Rattle.protocol.specs.Bounds.{maxPartitions};
 ghost use Rattle.protocol.specs.Faults.{crash, cut, recover};
 ghost use Rattle.tables.specs.View.{view};
 ghost use Rattle.answers.specs.Called.{Ready, stored};
+ghost use Rattle.answers.specs.Change.{Applies, applied};
 use crate::losses::Loss;
 use answers::Answered;
 use answers::accepted;
+use answers::changes::Change;
+use answers::changes::apply;
+use answers::changes::changes;
+use answers::changes::keeps;
 use answers::is_there;
 use answers::refused;
 use protocol::Refusal;
@@ -84,16 +89,26 @@ pub fn crash_in_order(t: Tables, p: u32) -> Answered
 
 // ---- recover
 
+// What the recovery does: it is for who stores it.
+pub fn recover_change(t: Tables, p: usize) -> Change
+    requires { ⌜ Ready t × (p < t .count) × (p < maxPartitions) ⌝ }
+    ensures { λ c. ⌜ applied t c ≡ stored t (recover (view t) p) ⌝ }
+    ensures { λ c. ⌜ Applies t c ⌝ }
+{
+    let mut x = t.partitions[p];
+    if x.up {
+        return keeps(p, x, Refusal::IsUp);
+    }
+    x.up = true;
+    changes(p, x, 0, Reply::None)
+}
+
 fn recover_there(t: Tables, p: usize) -> Answered
     requires { ⌜ Ready t × (p < t .count) × (p < maxPartitions) ⌝ }
     ensures { λ x. ⌜ x ≡ stored t (recover (view t) p) ⌝ }
 {
-    let x = t.partitions[p];
-    if x.up {
-        return refused(t, Refusal::IsUp);
-    }
-    let up = stores::with_up(t, p, true);
-    accepted(up, 0, Reply::None)
+    let change = recover_change(t, p);
+    apply(t, change)
 }
 
 pub fn recover_in_order(t: Tables, p: u32) -> Answered

@@ -84,21 +84,6 @@ module _ (t : Tables) (p : ℕ) (s : Stored t p) where
     abbrev Stores : Partition → Part → Type 0
     Stores y z = record { count = t .count; partitions = set (t .partitions) p y; queues = t .queues } ≡ pack (setPartition m p z)
 
-    pub stored-entries : (l : Entries) → packEntries (entriesOf l) ≡ l
-        → Stores (record { up = x .up; last = x .last; entries = l; backpointers = x .backpointers; records = x .records }) (withEntries (partition m p) (entriesOf l))
-    stored-entries l h = set-stored _ _ (rw (read, h) refl)
-
-    pub stored-backpointers : (l : Backpointers) → packBackpointers (backpointersOf l) ≡ l
-        → Stores (record { up = x .up; last = x .last; entries = x .entries; backpointers = l; records = x .records }) (withBackpointers (partition m p) (backpointersOf l))
-    stored-backpointers l h = set-stored _ _ (rw (read, h) refl)
-
-    pub stored-records : (l : Records) → packRecords (recordsOf l) ≡ l
-        → Stores (record { up = x .up; last = x .last; entries = x .entries; backpointers = x .backpointers; records = l }) (withRecords (partition m p) (recordsOf l))
-    stored-records l h = set-stored _ _ (rw (read, h) refl)
-
-    pub stored-last : (n : ℕ) → Stores (record { up = x .up; last = n; entries = x .entries; backpointers = x .backpointers; records = x .records }) (withLast n (partition m p))
-    stored-last n = set-stored _ _ (rw read refl)
-
     pub stored-up : (u : Bool)
         → record { count = t .count; partitions = set (t .partitions) p (record { up = u; last = x .last; entries = x .entries; backpointers = x .backpointers; records = x .records }); queues = t .queues } ≡ pack (setUp m p u)
     unfolding setUp

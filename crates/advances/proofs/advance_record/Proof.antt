@@ -21,7 +21,11 @@ next-step-requires : tie.Need-next-step-requires
 next-step-requires c κs = search (records-advanced, read-entries, sized, needs)
 
 perform-requires : tie.Need-perform-requires
-perform-requires c κs = (search (records-advanced, read-entries, sized, needs), search (records-advanced, read-entries, sized, needs), search (records-advanced, read-entries, sized, needs))
+perform-requires c κs = (
+  search (records-advanced, read-entries, sized, needs),
+  search (records-advanced, read-entries, sized, needs),
+  search (records-advanced, read-entries, sized, needs),
+)
 
 returns : tie.Need-returns
 returns c = search (records-advanced, read-entries, sized, needs)

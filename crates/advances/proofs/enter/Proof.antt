@@ -1,4 +1,5 @@
 use Rattle.advances.proofs.Advancing.{steps}
+use Rattle.answers.proofs.Applied.{changed-applies, refused-applies}
 use Rattle.answers.proofs.Ways.{ready-stored}
 use Rattle.tables.proofs.Stored.{packed-records, packed-entries}
 use Rattle.lists.proofs.Finds.{found-below, found-in, found-fits}
@@ -8,25 +9,22 @@ use Rattle.advances.proofs.enter.Statement.{statement}
 use Rattle.advances.proofs.enter.Tie as tie
 
 mul-x : tie.Need-mul-x
-mul-x c = search (steps, ready-stored, packed-records, packed-entries, found-below, found-in, found-fits, sized, needs)
+mul-x c = search (steps, refused-applies, changed-applies, ready-stored, packed-records, packed-entries, found-below, found-in, found-fits, sized, needs)
 
 element-copy-out-x : tie.Need-element-copy-out-x
-element-copy-out-x c = search (steps, ready-stored, packed-records, packed-entries, found-below, found-in, found-fits, sized, needs)
+element-copy-out-x c = search (steps, refused-applies, changed-applies, ready-stored, packed-records, packed-entries, found-below, found-in, found-fits, sized, needs)
 
 entry-of-requires : tie.Need-entry-of-requires
-entry-of-requires c κs = search (steps, ready-stored, packed-records, packed-entries, found-below, found-in, found-fits, sized, needs)
+entry-of-requires c κs = search (steps, refused-applies, changed-applies, ready-stored, packed-records, packed-entries, found-below, found-in, found-fits, sized, needs)
 
 add-entry-requires : tie.Need-add-entry-requires
-add-entry-requires c κs = search (steps, ready-stored, packed-records, packed-entries, found-below, found-in, found-fits, sized, needs)
+add-entry-requires c κs = search (steps, refused-applies, changed-applies, ready-stored, packed-records, packed-entries, found-below, found-in, found-fits, sized, needs)
 
-with-entries-requires : tie.Need-with-entries-requires
-with-entries-requires c κs = search (steps, ready-stored, packed-records, packed-entries, found-below, found-in, found-fits, sized, needs)
-
-accepted-requires : tie.Need-accepted-requires
-accepted-requires c κs = search (steps, ready-stored, packed-records, packed-entries, found-below, found-in, found-fits, sized, needs)
+changes-requires : tie.Need-changes-requires
+changes-requires c κs = search (steps, refused-applies, changed-applies, ready-stored, packed-records, packed-entries, found-below, found-in, found-fits, sized, needs)
 
 returns : tie.Need-returns
-returns c = search (steps, ready-stored, packed-records, packed-entries, found-below, found-in, found-fits, sized, needs)
+returns c = search (steps, refused-applies, changed-applies, ready-stored, packed-records, packed-entries, found-below, found-in, found-fits, sized, needs)
 
 pub enter-spec : {M : Type 1} → statement M
 enter-spec =
@@ -36,6 +34,5 @@ enter-spec =
     element-copy-out-x
     entry-of-requires
     add-entry-requires
-    with-entries-requires
-    accepted-requires
+    changes-requires
     returns)

@@ -37,8 +37,8 @@ take-out-requires c κs = search (step-cases, sized, needs)
 enum-known-step-2 : tie.Need-enum-known-step-2
 enum-known-step-2 c = search (step-cases, sized, needs)
 
-refused-requires : tie.Need-refused-requires
-refused-requires c κs = search (step-cases, sized, needs)
+stay-requires : tie.Need-stay-requires
+stay-requires c κs = search (step-cases, sized, needs)
 
 returns : tie.Need-returns
 returns c = search (step-cases, sized, needs)
@@ -73,7 +73,7 @@ perform-spec =
     enum-told-4
     take-out-requires
     enum-known-step-2
-    refused-requires
+    stay-requires
     returns
     returns-2
     returns-3

@@ -1,4 +1,5 @@
 use Rattle.advances.proofs.Advancing.{steps}
+use Rattle.answers.proofs.Applied.{changed-applies, refused-applies}
 use Rattle.answers.proofs.Ways.{ready-stored}
 use Rattle.tables.proofs.Stored.{packed-records, packed-entries}
 use Rattle.lists.proofs.Finds.{found-below, found-in, found-fits}
@@ -8,37 +9,34 @@ use Rattle.advances.proofs.take_out.Statement.{statement}
 use Rattle.advances.proofs.take_out.Tie as tie
 
 mul-x : tie.Need-mul-x
-mul-x c = search (steps, ready-stored, packed-records, packed-entries, found-below, found-in, found-fits, sized, needs)
+mul-x c = search (steps, refused-applies, changed-applies, ready-stored, packed-records, packed-entries, found-below, found-in, found-fits, sized, needs)
 
 element-copy-out-x : tie.Need-element-copy-out-x
-element-copy-out-x c = search (steps, ready-stored, packed-records, packed-entries, found-below, found-in, found-fits, sized, needs)
+element-copy-out-x c = search (steps, refused-applies, changed-applies, ready-stored, packed-records, packed-entries, found-below, found-in, found-fits, sized, needs)
 
 find-entry-requires : tie.Need-find-entry-requires
-find-entry-requires c κs = search (steps, ready-stored, packed-records, packed-entries, found-below, found-in, found-fits, sized, needs)
+find-entry-requires c κs = search (steps, refused-applies, changed-applies, ready-stored, packed-records, packed-entries, found-below, found-in, found-fits, sized, needs)
 
 enum-told : tie.Need-enum-told
-enum-told c = search (steps, ready-stored, packed-records, packed-entries, found-below, found-in, found-fits, sized, needs)
+enum-told c = search (steps, refused-applies, changed-applies, ready-stored, packed-records, packed-entries, found-below, found-in, found-fits, sized, needs)
 
-refused-requires : tie.Need-refused-requires
-refused-requires c κs = search (steps, ready-stored, packed-records, packed-entries, found-below, found-in, found-fits, sized, needs)
+keeps-requires : tie.Need-keeps-requires
+keeps-requires c κs = search (steps, refused-applies, changed-applies, ready-stored, packed-records, packed-entries, found-below, found-in, found-fits, sized, needs)
 
 enum-known-found : tie.Need-enum-known-found
-enum-known-found c = search (steps, ready-stored, packed-records, packed-entries, found-below, found-in, found-fits, sized, needs)
+enum-known-found c = search (steps, refused-applies, changed-applies, ready-stored, packed-records, packed-entries, found-below, found-in, found-fits, sized, needs)
 
 remove-entry-requires : tie.Need-remove-entry-requires
-remove-entry-requires c κs = search (steps, ready-stored, packed-records, packed-entries, found-below, found-in, found-fits, sized, needs)
+remove-entry-requires c κs = search (steps, refused-applies, changed-applies, ready-stored, packed-records, packed-entries, found-below, found-in, found-fits, sized, needs)
 
-with-entries-requires : tie.Need-with-entries-requires
-with-entries-requires c κs = search (steps, ready-stored, packed-records, packed-entries, found-below, found-in, found-fits, sized, needs)
-
-accepted-requires : tie.Need-accepted-requires
-accepted-requires c κs = search (steps, ready-stored, packed-records, packed-entries, found-below, found-in, found-fits, sized, needs)
+changes-requires : tie.Need-changes-requires
+changes-requires c κs = search (steps, refused-applies, changed-applies, ready-stored, packed-records, packed-entries, found-below, found-in, found-fits, sized, needs)
 
 returns : tie.Need-returns
-returns c = search (steps, ready-stored, packed-records, packed-entries, found-below, found-in, found-fits, sized, needs)
+returns c = search (steps, refused-applies, changed-applies, ready-stored, packed-records, packed-entries, found-below, found-in, found-fits, sized, needs)
 
 returns-2 : tie.Need-returns-2
-returns-2 c = search (steps, ready-stored, packed-records, packed-entries, found-below, found-in, found-fits, sized, needs)
+returns-2 c = search (steps, refused-applies, changed-applies, ready-stored, packed-records, packed-entries, found-below, found-in, found-fits, sized, needs)
 
 pub take-out-spec : {M : Type 1} → statement M
 take-out-spec =
@@ -48,10 +46,9 @@ take-out-spec =
     element-copy-out-x
     find-entry-requires
     enum-told
-    refused-requires
+    keeps-requires
     enum-known-found
     remove-entry-requires
-    with-entries-requires
-    accepted-requires
+    changes-requires
     returns
     returns-2)

@@ -1,4 +1,5 @@
 use Rattle.advances.proofs.Advancing.{steps}
+use Rattle.answers.proofs.Applied.{changed-applies, refused-applies}
 use Rattle.answers.proofs.Ways.{ready-stored}
 use Rattle.tables.proofs.Stored.{packed-records, packed-entries}
 use Rattle.lists.proofs.Finds.{found-below, found-in, found-fits}
@@ -8,25 +9,22 @@ use Rattle.advances.proofs.turn.Statement.{statement}
 use Rattle.advances.proofs.turn.Tie as tie
 
 mul-x : tie.Need-mul-x
-mul-x c = search (steps, ready-stored, packed-records, packed-entries, found-below, found-in, found-fits, sized, needs)
+mul-x c = search (steps, refused-applies, changed-applies, ready-stored, packed-records, packed-entries, found-below, found-in, found-fits, sized, needs)
 
 element-copy-out-x : tie.Need-element-copy-out-x
-element-copy-out-x c = search (steps, ready-stored, packed-records, packed-entries, found-below, found-in, found-fits, sized, needs)
+element-copy-out-x c = search (steps, refused-applies, changed-applies, ready-stored, packed-records, packed-entries, found-below, found-in, found-fits, sized, needs)
 
 turned-requires : tie.Need-turned-requires
-turned-requires c κs = search (steps, ready-stored, packed-records, packed-entries, found-below, found-in, found-fits, sized, needs)
+turned-requires c κs = search (steps, refused-applies, changed-applies, ready-stored, packed-records, packed-entries, found-below, found-in, found-fits, sized, needs)
 
 set-record-requires : tie.Need-set-record-requires
-set-record-requires c κs = search (steps, ready-stored, packed-records, packed-entries, found-below, found-in, found-fits, sized, needs)
+set-record-requires c κs = search (steps, refused-applies, changed-applies, ready-stored, packed-records, packed-entries, found-below, found-in, found-fits, sized, needs)
 
-with-records-requires : tie.Need-with-records-requires
-with-records-requires c κs = search (steps, ready-stored, packed-records, packed-entries, found-below, found-in, found-fits, sized, needs)
-
-accepted-requires : tie.Need-accepted-requires
-accepted-requires c κs = search (steps, ready-stored, packed-records, packed-entries, found-below, found-in, found-fits, sized, needs)
+changes-requires : tie.Need-changes-requires
+changes-requires c κs = search (steps, refused-applies, changed-applies, ready-stored, packed-records, packed-entries, found-below, found-in, found-fits, sized, needs)
 
 returns : tie.Need-returns
-returns c = search (steps, ready-stored, packed-records, packed-entries, found-below, found-in, found-fits, sized, needs)
+returns c = search (steps, refused-applies, changed-applies, ready-stored, packed-records, packed-entries, found-below, found-in, found-fits, sized, needs)
 
 pub turn-spec : {M : Type 1} → statement M
 turn-spec =
@@ -36,6 +34,5 @@ turn-spec =
     element-copy-out-x
     turned-requires
     set-record-requires
-    with-records-requires
-    accepted-requires
+    changes-requires
     returns)

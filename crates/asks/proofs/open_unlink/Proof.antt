@@ -1,32 +1,28 @@
-use Rattle.asks.proofs.Unlinks.{unlinktables}
-use Rattle.tables.proofs.Known.{sized}
 use Rattle.asks.proofs.Asks.{open-records}
-use Rattle.answers.proofs.Ways.{ready-stored}
-use Rattle.tables.proofs.Stored.{packed-records}
+use Rattle.asks.proofs.Unlinks.{unlinktables}
+use Rattle.answers.proofs.Applied.{changed-applies}
+use Rattle.tables.proofs.Known.{sized}
 use borrow.Author.Needs.{needs}
 use Rattle.asks.proofs.open_unlink.Statement.{statement}
 use Rattle.asks.proofs.open_unlink.Tie as tie
 
 mul-x : tie.Need-mul-x
-mul-x c = search (unlinktables, open-records, ready-stored, packed-records, sized, needs)
+mul-x c = search (unlinktables, open-records, changed-applies, sized, needs)
 
 element-copy-out-x : tie.Need-element-copy-out-x
-element-copy-out-x c = search (unlinktables, open-records, ready-stored, packed-records, sized, needs)
+element-copy-out-x c = search (unlinktables, open-records, changed-applies, sized, needs)
 
 unlink-record-requires : tie.Need-unlink-record-requires
-unlink-record-requires c κs = search (unlinktables, open-records, ready-stored, packed-records, sized, needs)
+unlink-record-requires c κs = search (unlinktables, open-records, changed-applies, sized, needs)
 
 add-record-requires : tie.Need-add-record-requires
-add-record-requires c κs = search (unlinktables, open-records, ready-stored, packed-records, sized, needs)
+add-record-requires c κs = search (unlinktables, open-records, changed-applies, sized, needs)
 
-with-records-requires : tie.Need-with-records-requires
-with-records-requires c κs = search (unlinktables, open-records, ready-stored, packed-records, sized, needs)
-
-accepted-requires : tie.Need-accepted-requires
-accepted-requires c κs = search (unlinktables, open-records, ready-stored, packed-records, sized, needs)
+changes-requires : tie.Need-changes-requires
+changes-requires c κs = search (unlinktables, open-records, changed-applies, sized, needs)
 
 returns : tie.Need-returns
-returns c = search (unlinktables, open-records, ready-stored, packed-records, sized, needs)
+returns c = (search (unlinktables, open-records, changed-applies, sized, needs), search (unlinktables, open-records, changed-applies, sized, needs))
 
 pub open-unlink-spec : {M : Type 1} → statement M
 open-unlink-spec =
@@ -36,6 +32,5 @@ open-unlink-spec =
     element-copy-out-x
     unlink-record-requires
     add-record-requires
-    with-records-requires
-    accepted-requires
+    changes-requires
     returns)

@@ -1,43 +1,44 @@
 use Rattle.asks.proofs.Unlinks.{unlinktables}
-use Rattle.tables.proofs.Known.{sized}
-use Rattle.answers.proofs.Ways.{read-entries}
+use Rattle.answers.proofs.Applied.{refused-applies}
+use Rattle.answers.proofs.Ways.{read-entries, ready-stored}
 use Rattle.lists.proofs.Finds.{found-below, found-fits, found-in}
+use Rattle.tables.proofs.Known.{sized}
 use borrow.Author.Needs.{needs}
 use Rattle.asks.proofs.unlink_tables.Statement.{statement}
 use Rattle.asks.proofs.unlink_tables.Tie as tie
 
 mul-x : tie.Need-mul-x
-mul-x c = search (unlinktables, read-entries, found-below, found-in, found-fits, sized, needs)
+mul-x c = search (unlinktables, refused-applies, read-entries, ready-stored, found-below, found-in, found-fits, sized, needs)
 
 element-copy-out-x : tie.Need-element-copy-out-x
-element-copy-out-x c = search (unlinktables, read-entries, found-below, found-in, found-fits, sized, needs)
+element-copy-out-x c = search (unlinktables, refused-applies, read-entries, ready-stored, found-below, found-in, found-fits, sized, needs)
 
 find-name-requires : tie.Need-find-name-requires
-find-name-requires c κs = search (unlinktables, read-entries, found-below, found-in, found-fits, sized, needs)
+find-name-requires c κs = search (unlinktables, refused-applies, read-entries, ready-stored, found-below, found-in, found-fits, sized, needs)
 
 enum-told : tie.Need-enum-told
-enum-told c = search (unlinktables, read-entries, found-below, found-in, found-fits, sized, needs)
+enum-told c = search (unlinktables, refused-applies, read-entries, ready-stored, found-below, found-in, found-fits, sized, needs)
 
-refused-requires : tie.Need-refused-requires
-refused-requires c κs = search (unlinktables, read-entries, found-below, found-in, found-fits, sized, needs)
+keeps-requires : tie.Need-keeps-requires
+keeps-requires c κs = search (unlinktables, refused-applies, read-entries, ready-stored, found-below, found-in, found-fits, sized, needs)
 
 enum-known-found : tie.Need-enum-known-found
-enum-known-found c = search (unlinktables, read-entries, found-below, found-in, found-fits, sized, needs)
+enum-known-found c = search (unlinktables, refused-applies, read-entries, ready-stored, found-below, found-in, found-fits, sized, needs)
 
 mul-e : tie.Need-mul-e
-mul-e c = search (unlinktables, read-entries, found-below, found-in, found-fits, sized, needs)
+mul-e c = search (unlinktables, refused-applies, read-entries, ready-stored, found-below, found-in, found-fits, sized, needs)
 
 element-copy-out-e : tie.Need-element-copy-out-e
-element-copy-out-e c = search (unlinktables, read-entries, found-below, found-in, found-fits, sized, needs)
+element-copy-out-e c = search (unlinktables, refused-applies, read-entries, ready-stored, found-below, found-in, found-fits, sized, needs)
 
 unlink-entry-requires : tie.Need-unlink-entry-requires
-unlink-entry-requires c κs = search (unlinktables, read-entries, found-below, found-in, found-fits, sized, needs)
+unlink-entry-requires c κs = search (unlinktables, refused-applies, read-entries, ready-stored, found-below, found-in, found-fits, sized, needs)
 
 returns : tie.Need-returns
-returns c = search (unlinktables, read-entries, found-below, found-in, found-fits, sized, needs)
+returns c = (search (unlinktables, refused-applies, read-entries, ready-stored, found-below, found-in, found-fits, sized, needs), search (unlinktables, refused-applies, read-entries, ready-stored, found-below, found-in, found-fits, sized, needs))
 
 returns-2 : tie.Need-returns-2
-returns-2 c = search (unlinktables, read-entries, found-below, found-in, found-fits, sized, needs)
+returns-2 c = (search (unlinktables, refused-applies, read-entries, ready-stored, found-below, found-in, found-fits, sized, needs), search (unlinktables, refused-applies, read-entries, ready-stored, found-below, found-in, found-fits, sized, needs))
 
 pub unlink-tables-spec : {M : Type 1} → statement M
 unlink-tables-spec =
@@ -47,7 +48,7 @@ unlink-tables-spec =
     element-copy-out-x
     find-name-requires
     enum-told
-    refused-requires
+    keeps-requires
     enum-known-found
     mul-e
     element-copy-out-e

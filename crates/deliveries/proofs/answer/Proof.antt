@@ -3,7 +3,6 @@ use Rattle.tables.proofs.Known.{sized}
 use borrow.Author.Needs.{needs}
 use Rattle.deliveries.proofs.answer.Statement.{statement}
 use Rattle.deliveries.proofs.answer.Tie as tie
-use Rattle.deliveries.proofs.verdict.verdict.Reads as verdict-reads
 
 mul-own : tie.Need-mul-own
 mul-own c = search (answers, sized, needs)
@@ -21,7 +20,7 @@ carry-out-requires : tie.Need-carry-out-requires
 carry-out-requires c κs = search (answers, sized, needs)
 
 returns : tie.Need-returns
-returns c = search (answers, sized, needs)
+returns c = (search (answers, sized, needs), search (answers, sized, needs))
 
 pub answer-spec : {M : Type 1} → statement M
 answer-spec =

@@ -2,9 +2,6 @@ use Rattle.deliveries.proofs.Receives.{carryings}
 use borrow.Author.Needs.{needs}
 use Rattle.deliveries.proofs.carry_out.Statement.{statement}
 use Rattle.deliveries.proofs.carry_out.Tie as tie
-use Rattle.deliveries.proofs.add.Reads as add-reads
-use Rattle.deliveries.proofs.remove.Reads as remove-reads
-use Rattle.deliveries.proofs.say.Reads as say-reads
 
 enum-known-v : tie.Need-enum-known-v
 enum-known-v c = search (carryings, needs)
@@ -25,13 +22,13 @@ remove-requires : tie.Need-remove-requires
 remove-requires c κs = search (carryings, needs)
 
 returns : tie.Need-returns
-returns c = search (carryings, needs)
+returns c = (search (carryings, needs), search (carryings, needs))
 
 returns-2 : tie.Need-returns-2
-returns-2 c = search (carryings, needs)
+returns-2 c = (search (carryings, needs), search (carryings, needs))
 
 returns-3 : tie.Need-returns-3
-returns-3 c = search (carryings, needs)
+returns-3 c = (search (carryings, needs), search (carryings, needs))
 
 pub carry-out-spec : {M : Type 1} → statement M
 carry-out-spec =

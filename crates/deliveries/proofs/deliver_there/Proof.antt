@@ -1,35 +1,17 @@
-use Rattle.deliveries.proofs.Delivers.{deliveries}
+use Rattle.answers.proofs.Applied.{apply-change}
 use Rattle.tables.proofs.Known.{sized}
 use borrow.Author.Needs.{needs}
 use Rattle.deliveries.proofs.deliver_there.Statement.{statement}
 use Rattle.deliveries.proofs.deliver_there.Tie as tie
-use Rattle.answers.proofs.refused.Reads as refused-reads
 
-mul-own : tie.Need-mul-own
-mul-own c = search (deliveries, sized, needs)
+deliver-change-requires : tie.Need-deliver-change-requires
+deliver-change-requires c κs = search (apply-change, sized, needs)
 
-element-copy-out-own : tie.Need-element-copy-out-own
-element-copy-out-own c = search (deliveries, sized, needs)
-
-refused-requires : tie.Need-refused-requires
-refused-requires c κs = search (deliveries, sized, needs)
+apply-requires : tie.Need-apply-requires
+apply-requires c κs = search (apply-change, sized, needs)
 
 returns : tie.Need-returns
-returns c = search (deliveries, sized, needs)
-
-deliver-oldest-requires : tie.Need-deliver-oldest-requires
-deliver-oldest-requires c κs = search (deliveries, sized, needs)
-
-returns-2 : tie.Need-returns-2
-returns-2 c = search (deliveries, sized, needs)
+returns c = search (apply-change, sized, needs)
 
 pub deliver-there-spec : {M : Type 1} → statement M
-deliver-there-spec =
-    tie.close
-    (tie.spec
-    mul-own
-    element-copy-out-own
-    refused-requires
-    returns
-    deliver-oldest-requires
-    returns-2)
+deliver-there-spec = tie.close (tie.spec deliver-change-requires apply-requires returns)

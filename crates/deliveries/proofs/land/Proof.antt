@@ -1,27 +1,26 @@
 use Rattle.deliveries.proofs.Receives.{landings}
-use Rattle.tables.proofs.Stored.{packed-records}
 use Rattle.tables.proofs.Known.{sized}
 use borrow.Author.Needs.{needs}
 use Rattle.deliveries.proofs.land.Statement.{statement}
 use Rattle.deliveries.proofs.land.Tie as tie
 
 mul-own : tie.Need-mul-own
-mul-own c = search (landings, packed-records, sized, needs)
+mul-own c = search (landings, sized, needs)
 
 element-copy-out-own : tie.Need-element-copy-out-own
-element-copy-out-own c = search (landings, packed-records, sized, needs)
+element-copy-out-own c = search (landings, sized, needs)
 
 stage-after-requires : tie.Need-stage-after-requires
-stage-after-requires c κs = search (landings, packed-records, sized, needs)
+stage-after-requires c κs = search (landings, sized, needs)
 
 with-stage-requires : tie.Need-with-stage-requires
-with-stage-requires c κs = search (landings, packed-records, sized, needs)
+with-stage-requires c κs = search (landings, sized, needs)
 
-with-records-requires : tie.Need-with-records-requires
-with-records-requires c κs = search (landings, packed-records, sized, needs)
+exchanges-requires : tie.Need-exchanges-requires
+exchanges-requires c κs = search (landings, sized, needs)
 
 returns : tie.Need-returns
-returns c = search (landings, packed-records, sized, needs)
+returns c = (search (landings, sized, needs), search (landings, sized, needs))
 
 pub land-spec : {M : Type 1} → statement M
 land-spec =
@@ -31,5 +30,5 @@ land-spec =
     element-copy-out-own
     stage-after-requires
     with-stage-requires
-    with-records-requires
+    exchanges-requires
     returns)

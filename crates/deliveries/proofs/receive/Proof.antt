@@ -2,8 +2,6 @@ use Rattle.deliveries.proofs.Receives.{receipts}
 use borrow.Author.Needs.{needs}
 use Rattle.deliveries.proofs.receive.Statement.{statement}
 use Rattle.deliveries.proofs.receive.Tie as tie
-use Rattle.deliveries.proofs.answer.Reads as answer-reads
-use Rattle.deliveries.proofs.land.Reads as land-reads
 
 enum-told : tie.Need-enum-told
 enum-told c = search (receipts, needs)
@@ -30,16 +28,16 @@ land-requires-3 : tie.Need-land-requires-3
 land-requires-3 c κs = search (receipts, needs)
 
 returns : tie.Need-returns
-returns c = search (receipts, needs)
+returns c = (search (receipts, needs), search (receipts, needs))
 
 returns-2 : tie.Need-returns-2
-returns-2 c = search (receipts, needs)
+returns-2 c = (search (receipts, needs), search (receipts, needs))
 
 returns-3 : tie.Need-returns-3
-returns-3 c = search (receipts, needs)
+returns-3 c = (search (receipts, needs), search (receipts, needs))
 
 returns-4 : tie.Need-returns-4
-returns-4 c = search (receipts, needs)
+returns-4 c = (search (receipts, needs), search (receipts, needs))
 
 pub receive-spec : {M : Type 1} → statement M
 receive-spec =

@@ -1,17 +1,20 @@
-use Rattle.deliveries.proofs.Receives.{say-sent}
+use Rattle.deliveries.proofs.Receives.{sayings}
+use Rattle.tables.proofs.Known.{sized}
 use borrow.Author.Needs.{needs}
 use Rattle.deliveries.proofs.say.Statement.{statement}
 use Rattle.deliveries.proofs.say.Tie as tie
-use Rattle.answers.proofs.queues.send.Reads as send-reads
 
-answer-to-requires : tie.Need-answer-to-requires
-answer-to-requires c κs = search (say-sent, needs)
+mul-own : tie.Need-mul-own
+mul-own c = search (sayings, sized, needs)
 
-send-requires : tie.Need-send-requires
-send-requires c κs = search (say-sent, needs)
+element-copy-out-own : tie.Need-element-copy-out-own
+element-copy-out-own c = search (sayings, sized, needs)
+
+take-and-say-requires : tie.Need-take-and-say-requires
+take-and-say-requires c κs = search (sayings, sized, needs)
 
 returns : tie.Need-returns
-returns c = search (say-sent, needs)
+returns c = (search (sayings, sized, needs), search (sayings, sized, needs))
 
 pub say-spec : {M : Type 1} → statement M
-say-spec = tie.close (tie.spec answer-to-requires send-requires returns)
+say-spec = tie.close (tie.spec mul-own element-copy-out-own take-and-say-requires returns)
