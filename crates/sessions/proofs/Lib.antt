@@ -1,3 +1,4 @@
 pub mod Counting
 pub mod Responding
 pub mod Sessions
+pub mod Doing

@@ -1,3 +1,4 @@
 pub mod Counts
 pub mod Session
+pub mod Deeds
 pub mod Claims

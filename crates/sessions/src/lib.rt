@@ -16,6 +16,7 @@ use settle::run;
 use tables::Tables;
 
 pub mod counts;
+pub mod deeds;
 
 // Between two lines. Before the first accepted `P` it is not open, and its tables are nobody's.
 pub struct Session {

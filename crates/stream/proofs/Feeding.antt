@@ -1,12 +1,12 @@
 -- The loop over a block: at each place, what is left to be answered, and what stands in the room.
-use mathlib.Core.Bool.{false, true}
+use mathlib.Core.Bool.{Bool, false, true}
 use mathlib.Core.List.{List, [], _++_, _∷_, append-assoc, append-nil}
 use mathlib.Core.Path.{_∙_, _≡_, ap, refl, sym}
 use Prim.Native.Nat.{_*_, _+_, _<_, _≤_, ℕ}
 use native.Mathlib.Numerals.{add-one}
 use native.Mathlib.Omega.{arith}
 use lib.Dec.{eqb}
-use lib.ListN.{drop, drop-of-length-le, getD, length}
+use lib.ListN.{drop, drop-of-length-le, getD, length, set}
 use lib.Seq.{drop-cons}
 use borrow.Author.Tests.{eq-eqb, ne-eqb}
 use Rattle.rehearsal.specs.Answers.{numbersOf}
@@ -16,6 +16,14 @@ use Rattle.rehearsal.specs.Text.{Adds, lineEnd, lineText}
 use Rattle.rehearsal.specs.declared.Command.{Command}
 use Rattle.sessions.specs.declared.Response.{Response}
 use Rattle.sessions.specs.declared.Session.{Session}
+use Rattle.sessions.specs.Deeds.{Does}
+use Rattle.sessions.specs.declared.deeds.Deed.{Deed}
+use Rattle.answers.specs.Change.{Sends, Takes, changed, fromOther, sentIf, takenIf, takenQueues, toOther}
+use Rattle.answers.specs.declared.changes.Change.{Change}
+use Rattle.protocol.specs.Bounds.{maxMessages}
+use Rattle.tables.specs.View.{messagesOf, noQueue, packQueue}
+use Rattle.tables.specs.declared.Queue.{Queue}
+use Rattle.tables.specs.declared.Tables.{Tables}
 use Rattle.rehearsal.proofs.Buffers.{adds-length, adds-nothing, adds-on}
 use Rattle.stream.specs.Feed.{Midway, Service, begunWith, fed, fedByte, longestAnswer, midway, nextLine, said, saidByte}
 use Rattle.stream.specs.Sessions.{sessions}
@@ -82,6 +90,14 @@ module _ (x₀ : Midway Session) (block before : List ℕ) where
         let e : eqb (getD block i 0) lineEnd ≡ true = eq-eqb _ _ b in
         step h (lineText (n′ ∷ numbersOf (r .numbers))) (rw (e, en, er, ec)) l′ n′ s′ (rw (e, en, el, es, er, ec)) a p w q
 
+    -- a change of one partition was stored, and the tables are u
+    pub feed-deed : i < length block → getD block i 0 ≡ lineEnd → (n′ : ℕ) → n′ ≡ nextLine n → (c : Command) → c ≡ commandOf l → (d : Deed) → Does d (s .«open») (s .tables) (responded s c) → d .local ≡ true
+        → (a : List ℕ) (p : ℕ) → Adds (lineText (n′ ∷ numbersOf (d .numbers))) out place a p → p ≤ place + longestAnswer → (l′ : List ℕ) → l′ ≡ [] → (u : Tables) → u ≡ changed (s .tables) (d .change)
+        → Feeding l′ n′ (record { «open» = s .«open»; tables = u }) a p (i + 1)
+    feed-deed h b n′ en c ec d ed k a p w q l′ el u eu =
+        let r : Response = record { numbers = d .numbers; session = record { «open» = s .«open»; tables = changed (s .tables) (d .change) } } in
+        feed-line h b n′ en c ec r (ed .gives k) a p w q l′ el (record { «open» = s .«open»; tables = u }) (ap (λ (j : Tables). record { «open» = s .«open»; tables = j }) eu)
+
     pub feed-byte : i < length block → (getD block i 0 ≡ lineEnd → ⊥) → (l′ : List ℕ) → l′ ≡ begunWith l (getD block i 0) → Feeding l′ n s out place (i + 1)
     feed-byte h b l′ el =
         let e : eqb (getD block i 0) lineEnd ≡ false = ne-eqb _ _ b in
@@ -108,3 +124,31 @@ feed-start l n s block out h =
     }
 
 pub ruleset feeding = (feed-start, feed-same, feed-room, feed-line, feed-byte, feed-kept, feed-said)
+
+-- ---- where a change is stored
+
+module _ (d : Deed) (b : Bool) (t : Tables) (x : Response) (e : Does d b t x) (k : d .local ≡ true) (q : Queue) (f : q ≡ getD (t .queues) (fromOther (d .change)) noQueue) where
+  pub from-packed : packQueue (messagesOf q) ≡ q
+  from-packed = rw f (e .queued k .packed)
+
+  pub from-most : q .count ≤ maxMessages
+  from-most = rw f (e .queued k .most)
+
+  pub from-takes : Takes (d .change .takes) q
+  from-takes = rw f (e .queued k .takes)
+
+  module _ (r : Queue) (h : r ≡ takenIf (d .change .takes) q) (g : Queue) (v : g ≡ getD (set (t .queues) (fromOther (d .change)) r) (toOther (d .change)) noQueue) where
+    taken : g ≡ getD (takenQueues t (d .change)) (toOther (d .change)) noQueue
+    taken = v ∙ rw (h, f) refl
+
+    pub to-packed : packQueue (messagesOf g) ≡ g
+    to-packed = rw taken (e .queued k .after)
+
+    pub to-sends : Sends (d .change .sends) g
+    to-sends = rw taken (e .queued k .sends)
+
+pub stored-there : (t : Tables) (c : Change) (q : Queue) → q ≡ getD (t .queues) (fromOther c) noQueue → (r : Queue) → r ≡ takenIf (c .takes) q
+    → (g : Queue) → g ≡ getD (set (t .queues) (fromOther c) r) (toOther c) noQueue → (y : Queue) → y ≡ sentIf (c .sends) (c .message) g
+    → record { count = t .count; partitions = set (t .partitions) (c .at) (c .partition); queues = set (set (t .queues) (fromOther c) r) (toOther c) y } ≡ changed t c
+unfolding changed
+stored-there t c q f r h g v y w = rw (w, v, h, f) refl

@@ -9,6 +9,8 @@ ghost use Rattle.rehearsal.specs.Line.{commandOf};
 ghost use Rattle.rehearsal.specs.Text.{Adds, lineText};
 ghost use Rattle.stream.specs.Feed.{begunWith, fed, longestAnswer, nextLine, said};
 ghost use Rattle.stream.specs.Sessions.{atStart, lineOf, midwayOf, sessions};
+use answers::changes::sent_if;
+use answers::changes::taken_if;
 use rehearsal::Command;
 use rehearsal::LF;
 use rehearsal::LINE_BYTES;
@@ -16,6 +18,8 @@ use rehearsal::Numbers;
 use rehearsal::line;
 use rehearsal::text;
 use sessions::Session;
+use sessions::deeds;
+use tables::MAX_PARTITIONS;
 
 // One byte more than a line may have stands for any more.
 const LINE_ROOM: usize = LINE_BYTES + 1;
@@ -110,7 +114,8 @@ pub fn has_begun(k: Kept) -> bool
     0 < k.line.len
 }
 
-// Every byte of a block, in order; the answers stand in the lent room from its start.
+// Every byte of a block, in order; the answers stand in the lent room from its start. Of a command that changes one partition the
+// change is stored here, where the tables are: to hand them on and back would take longer than the command.
 pub fn feed(k: Kept, block: &[u8], out: &mut [u8]) -> Fed
     requires { ⌜ length (now block) * longestAnswer ≤ length (now out) ⌝ }
     ensures { λ r. ⌜ midwayOf (r .kept) ≡ fed sessions (midwayOf k) (now (block .entry)) ⌝ }
@@ -118,7 +123,9 @@ pub fn feed(k: Kept, block: &[u8], out: &mut [u8]) -> Fed
 {
     let mut line = k.line;
     let mut lines = k.lines;
-    let mut session = k.session;
+    let began = k.session;
+    let mut running = began.open;
+    let mut tables = began.tables;
     let mut place: usize = 0;
     let mut i: usize = 0;
     while i < block.len() {
@@ -127,14 +134,41 @@ pub fn feed(k: Kept, block: &[u8], out: &mut [u8]) -> Fed
         if b == LF {
             lines = next_line(lines);
             let command = command_in(line);
-            let response = sessions::respond(session, command);
-            place = put_answer(out, place, lines, response.numbers);
-            session = response.session;
             line = no_bytes();
+            let deed = deeds::deed_of(running, tables, command);
+            if deed.local {
+                let change = deed.change;
+                let at = change.at;
+                let other = change.other;
+                let x = change.partition;
+                tables.partitions[at] = x;
+                let from = tables.queues[other * MAX_PARTITIONS + at];
+                let rest = taken_if(change.takes, from);
+                tables.queues[other * MAX_PARTITIONS + at] = rest;
+                let to = tables.queues[at * MAX_PARTITIONS + other];
+                let message = change.message;
+                let more = sent_if(change.sends, to, message);
+                tables.queues[at * MAX_PARTITIONS + other] = more;
+                place = put_answer(out, place, lines, deed.numbers);
+            } else {
+                let session = Session {
+                    open: running,
+                    tables: tables,
+                };
+                let response = sessions::respond(session, command);
+                place = put_answer(out, place, lines, response.numbers);
+                let next = response.session;
+                running = next.open;
+                tables = next.tables;
+            }
         } else {
             line = with_byte(line, b);
         }
     }
+    let session = Session {
+        open: running,
+        tables: tables,
+    };
     let kept = Kept {
         line,
         lines,

@@ -1,17 +1,19 @@
-use Rattle.stream.proofs.Feeding.{Feeding, feeding}
+use Rattle.stream.proofs.Feeding.{Feeding, feed-deed, feed-kept, feed-said, feeding, from-most, from-packed, from-takes, stored-there, to-packed, to-sends}
 use Rattle.stream.specs.Feed.{midway}
 use Rattle.stream.specs.Sessions.{lineOf}
 use Prim.Native.Nat.{_-_}
+use mathlib.Core.Path.{refl}
 use lib.ListN.{length}
 use borrow.Author.Needs.{needs}
 use Rattle.stream.proofs.blocks.feed.Statement.{statement}
 use Rattle.stream.proofs.blocks.feed.Tie as tie
 
 abbrev Inv-loop : tie.InvT-loop
-Inv-loop block out₀ line₀ lines₀ session₀ place₀ i₀ out line lines session place i = Feeding (midway (lineOf line₀) lines₀ session₀) block out₀ (lineOf line) lines session out place i
+Inv-loop block out₀ line₀ lines₀ running₀ tables₀ place₀ i₀ out line lines running tables place i =
+    Feeding (midway (lineOf line₀) lines₀ (record { «open» = running₀; tables = tables₀ })) block out₀ (lineOf line) lines (record { «open» = running; tables = tables }) out place i
 
 abbrev μ-loop : tie.MeasureT-loop
-μ-loop block out₀ line₀ lines₀ session₀ place₀ i₀ out line lines session place i = length block - i
+μ-loop block out₀ line₀ lines₀ running₀ tables₀ place₀ i₀ out line lines running tables place i = length block - i
 
 loop-holds : tie.Need-loop-holds Inv-loop μ-loop
 loop-holds c = search (feeding, needs)
@@ -28,23 +30,101 @@ next-line-requires c κs = search (feeding, needs)
 command-in-requires : tie.Need-command-in-requires Inv-loop μ-loop
 command-in-requires c κs = search (feeding, needs)
 
-respond-requires : tie.Need-respond-requires Inv-loop μ-loop
-respond-requires c κs = search (feeding, needs)
+no-bytes-requires : tie.Need-no-bytes-requires Inv-loop μ-loop
+no-bytes-requires c κs = search (feeding, needs)
+
+deed-of-requires : tie.Need-deed-of-requires Inv-loop μ-loop
+deed-of-requires c κs = search (feeding, needs)
+
+mul-x : tie.Need-mul-x Inv-loop μ-loop
+mul-x c = search (feeding, needs)
+
+element-set-from-x : tie.Need-element-set-from-x Inv-loop μ-loop
+element-set-from-x c = search (feeding, needs)
+
+mul-from : tie.Need-mul-from Inv-loop μ-loop
+mul-from c = search (feeding, needs)
+
+add-from : tie.Need-add-from Inv-loop μ-loop
+add-from c = search (feeding, needs)
+
+mul-from-2 : tie.Need-mul-from-2 Inv-loop μ-loop
+mul-from-2 c = search (feeding, needs)
+
+element-copy-out-from : tie.Need-element-copy-out-from Inv-loop μ-loop
+element-copy-out-from c = search (feeding, needs)
+
+taken-if-requires : tie.Need-taken-if-requires Inv-loop μ-loop
+taken-if-requires c κs = (
+  search (from-packed, needs),
+  search (from-most, needs),
+  search (from-takes, needs),
+)
+
+mul-rest : tie.Need-mul-rest Inv-loop μ-loop
+mul-rest c = search (feeding, needs)
+
+add-rest : tie.Need-add-rest Inv-loop μ-loop
+add-rest c = search (feeding, needs)
+
+mul-rest-2 : tie.Need-mul-rest-2 Inv-loop μ-loop
+mul-rest-2 c = search (feeding, needs)
+
+element-set-from-rest : tie.Need-element-set-from-rest Inv-loop μ-loop
+element-set-from-rest c = search (feeding, needs)
+
+mul-to : tie.Need-mul-to Inv-loop μ-loop
+mul-to c = search (feeding, needs)
+
+add-to : tie.Need-add-to Inv-loop μ-loop
+add-to c = search (feeding, needs)
+
+mul-to-2 : tie.Need-mul-to-2 Inv-loop μ-loop
+mul-to-2 c = search (feeding, needs)
+
+element-copy-out-to : tie.Need-element-copy-out-to Inv-loop μ-loop
+element-copy-out-to c = search (feeding, needs)
+
+sent-if-requires : tie.Need-sent-if-requires Inv-loop μ-loop
+sent-if-requires c κs =
+    (search (to-packed, needs), search (to-sends, needs))
+
+mul-more : tie.Need-mul-more Inv-loop μ-loop
+mul-more c = search (feeding, needs)
+
+add-more : tie.Need-add-more Inv-loop μ-loop
+add-more c = search (feeding, needs)
+
+mul-more-2 : tie.Need-mul-more-2 Inv-loop μ-loop
+mul-more-2 c = search (feeding, needs)
+
+element-set-from-more : tie.Need-element-set-from-more Inv-loop μ-loop
+element-set-from-more c = search (feeding, needs)
 
 put-answer-requires : tie.Need-put-answer-requires Inv-loop μ-loop
 put-answer-requires c κs = search (feeding, needs)
-
-no-bytes-requires : tie.Need-no-bytes-requires Inv-loop μ-loop
-no-bytes-requires c κs = search (feeding, needs)
 
 loop-less : tie.Need-loop-less Inv-loop μ-loop
 loop-less c = search (feeding, needs)
 
 loop-again : tie.Need-loop-again Inv-loop μ-loop
-loop-again c = search (feeding, needs)
+loop-again c =
+    feed-deed _ _ _ _ _ _ _ _ _ (c .before .before .before .before .before .before .before .before .before .before .before .before .before .before .before .before .before .before .before .loop .inv)
+    (c .before .before .before .before .before .before .before .before .before .before .before .before .before .before .before .before .before .before .loop-test .taken)
+    (c .before .before .before .before .before .before .before .before .before .before .before .before .before .before .before .before .if1 .taken)
+    _ (c .before .before .before .before .before .before .before .before .before .before .before .before .before .before .before .next-line .ensures)
+    _ (c .before .before .before .before .before .before .before .before .before .before .before .before .before .before .command-in .ensures)
+    _ (c .before .before .before .before .before .before .before .before .before .before .before .before .deed-of .ensures)
+    (c .before .before .before .before .before .before .before .before .before .before .before .if2 .taken)
+    _ _ (c .before .before .put-answer .ensures .0) (c .before .before .put-answer .ensures .1)
+    _ (c .before .before .before .before .before .before .before .before .before .before .before .before .before .no-bytes .ensures)
+    _ (stored-there _ _ _ refl _ (c .before .before .before .before .before .before .before .taken-if .ensures) _ refl _ (c .before .before .before .before .sent-if .ensures))
 
-with-byte-requires : tie.Need-with-byte-requires Inv-loop μ-loop
-with-byte-requires c κs = search (feeding, needs)
+respond-requires : tie.Need-respond-requires Inv-loop μ-loop
+respond-requires c κs = search (feeding, needs)
+
+put-answer-requires-2 : tie.Need-put-answer-requires-2 Inv-loop μ-loop
+put-answer-requires-2 c κs = search (feeding, needs)
 
 loop-less-2 : tie.Need-loop-less-2 Inv-loop μ-loop
 loop-less-2 c = search (feeding, needs)
@@ -52,11 +132,21 @@ loop-less-2 c = search (feeding, needs)
 loop-again-2 : tie.Need-loop-again-2 Inv-loop μ-loop
 loop-again-2 c = search (feeding, needs)
 
+with-byte-requires : tie.Need-with-byte-requires Inv-loop μ-loop
+with-byte-requires c κs = search (feeding, needs)
+
+loop-less-3 : tie.Need-loop-less-3 Inv-loop μ-loop
+loop-less-3 c = search (feeding, needs)
+
+loop-again-3 : tie.Need-loop-again-3 Inv-loop μ-loop
+loop-again-3 c = search (feeding, needs)
+
 same-length : tie.Need-same-length Inv-loop μ-loop
 same-length c = search (feeding, needs)
 
 returns : tie.Need-returns Inv-loop μ-loop
-returns c = (search (feeding, needs), search (feeding, needs))
+returns c =
+    (feed-kept _ _ _ _ _ _ _ _ _ (c .before .loop .inv) (c .loop-test .left), feed-said _ _ _ _ _ _ _ _ _ (c .before .loop .inv) (c .loop-test .left))
 
 pub feed-spec : {M : Type 1} → statement M
 feed-spec =
@@ -69,13 +159,37 @@ feed-spec =
     add-i
     next-line-requires
     command-in-requires
-    respond-requires
-    put-answer-requires
     no-bytes-requires
+    deed-of-requires
+    mul-x
+    element-set-from-x
+    mul-from
+    add-from
+    mul-from-2
+    element-copy-out-from
+    taken-if-requires
+    mul-rest
+    add-rest
+    mul-rest-2
+    element-set-from-rest
+    mul-to
+    add-to
+    mul-to-2
+    element-copy-out-to
+    sent-if-requires
+    mul-more
+    add-more
+    mul-more-2
+    element-set-from-more
+    put-answer-requires
     loop-less
     loop-again
-    with-byte-requires
+    respond-requires
+    put-answer-requires-2
     loop-less-2
     loop-again-2
+    with-byte-requires
+    loop-less-3
+    loop-again-3
     same-length
     returns)

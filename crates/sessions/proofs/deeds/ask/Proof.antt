@@ -1,0 +1,35 @@
+use Rattle.sessions.proofs.Doing.{none-done}
+use Rattle.answers.proofs.Ways.{now-there}
+use Rattle.tables.proofs.Known.{sized}
+use borrow.Author.Needs.{needs}
+use Rattle.sessions.proofs.deeds.ask.Statement.{statement}
+use Rattle.sessions.proofs.deeds.ask.Tie as tie
+
+element-copy-out-p : tie.Need-element-copy-out-p
+element-copy-out-p c = search (none-done, now-there, sized, needs)
+
+is-there-requires : tie.Need-is-there-requires
+is-there-requires c κs = search (none-done, now-there, sized, needs)
+
+none-requires : tie.Need-none-requires
+none-requires c κs = search (none-done, now-there, sized, needs)
+
+returns : tie.Need-returns
+returns c = search (none-done, now-there, sized, needs)
+
+ask-there-requires : tie.Need-ask-there-requires
+ask-there-requires c κs = search (none-done, now-there, sized, needs)
+
+returns-2 : tie.Need-returns-2
+returns-2 c = search (none-done, now-there, sized, needs)
+
+pub ask-spec : {M : Type 1} → statement M
+ask-spec =
+    tie.close
+    (tie.spec
+    element-copy-out-p
+    is-there-requires
+    none-requires
+    returns
+    ask-there-requires
+    returns-2)

@@ -1,0 +1,39 @@
+-- What a command does where it changes one partition only: who holds the tables stores it in their place.
+use mathlib.Core.Bool.{Bool, false, true}
+use mathlib.Core.List.{[], _∷_}
+use mathlib.Core.Path.{_≡_}
+use Prim.Native.Nat.{_<_, _≤_}
+use lib.ListN.{getD}
+use Rattle.protocol.specs.Bounds.{maxMessages, maxPartitions}
+use Rattle.protocol.specs.declared.Refusal.the-variants.{OutOfOrder}
+use Rattle.tables.specs.View.{messagesOf, noQueue, packQueue, partitionAt}
+use Rattle.tables.specs.declared.Tables.{Tables}
+use Rattle.answers.specs.Change.{Sends, Takes, changed, fromOther, keepsWith, takenQueues, toOther}
+use Rattle.answers.specs.declared.changes.Change.{Change}
+use Rattle.rehearsal.specs.Answers.{stored}
+use Rattle.rehearsal.specs.Rehearsal.{answerNumbers}
+use Rattle.sessions.specs.Session.{Response}
+pub use Rattle.sessions.specs.declared.deeds.Deed.{Deed}
+
+-- the change is all that the command does
+abbrev pub deedWith : Change → Deed
+deedWith x = record { local = true; numbers = stored (answerNumbers (x .answer)); change = x }
+
+-- the command is none of this kind; the change is not looked at
+abbrev pub noDeed : Tables → Deed
+noDeed t = record { local = false; numbers = stored (0 ∷ 0 ∷ 0 ∷ []); change = keepsWith 0 (partitionAt t 0) OutOfOrder }
+
+-- what is asked of the queues that a change is stored in
+pub record Queued (t : Tables) (x : Change) : Type 0 where
+  pub packed : packQueue (messagesOf (getD (t .queues) (fromOther x) noQueue)) ≡ getD (t .queues) (fromOther x) noQueue
+  pub most : getD (t .queues) (fromOther x) noQueue .count ≤ maxMessages
+  pub takes : Takes (x .takes) (getD (t .queues) (fromOther x) noQueue)
+  pub after : packQueue (messagesOf (getD (takenQueues t x) (toOther x) noQueue)) ≡ getD (takenQueues t x) (toOther x) noQueue
+  pub sends : Sends (x .sends) (getD (takenQueues t x) (toOther x) noQueue)
+
+-- where the deed is local, the session whose tables have its change stored is what the response x leaves, and its numbers are x's
+pub record Does (d : Deed) («open» : Bool) (t : Tables) (x : Response) : Type 0 where
+  pub at : d .change .at < maxPartitions
+  pub other : d .change .other < maxPartitions
+  pub queued : d .local ≡ true → Queued t (d .change)
+  pub gives : d .local ≡ true → record { numbers = d .numbers; session = record { «open» = «open»; tables = changed t (d .change) } } ≡ x

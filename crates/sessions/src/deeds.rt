@@ -1,0 +1,199 @@
+// What a command does where it changes one partition only. The tables are not given back: who holds them stores the change in
+// their place, and so copies a tenth of what `respond` does.
+ghost use mathlib.Core.Bool.{true};
+ghost use mathlib.Core.Path.{_≡_};
+ghost use Prim.Native.Nat.{_<_};
+ghost use Rattle.protocol.specs.Ask.{ask};
+ghost use Rattle.protocol.specs.Bounds.{maxPartitions};
+ghost use Rattle.tables.specs.View.{view};
+ghost use Rattle.answers.specs.Called.{Ready, tested};
+ghost use Rattle.rehearsal.specs.Rehearsal.{argument};
+ghost use Rattle.rehearsal.specs.declared.Verb.the-variants.{Advance, Deliver, Recover, Unlink};
+ghost use Rattle.sessions.specs.Deeds.{Does, deedWith, noDeed};
+ghost use Rattle.sessions.specs.Session.{afterEvent, responded, respondedTo};
+use crate::numbers_of;
+use answers::changes::Change;
+use answers::changes::keeps;
+use answers::is_there;
+use protocol::Kind;
+use protocol::Refusal;
+use rehearsal::Command;
+use rehearsal::Numbers;
+use rehearsal::Verb;
+use rehearsal::answer;
+use tables::Tables;
+
+// Whether the command is one of these, and then its answer and its change.
+pub struct Deed {
+    pub local: bool,
+    pub numbers: Numbers,
+    pub change: Change,
+}
+
+fn none(t: Tables) -> Deed
+    ensures { λ d. ⌜ d ≡ noDeed t ⌝ }
+{
+    let x = t.partitions[0];
+    let change = keeps(0, x, Refusal::OutOfOrder);
+    let numbers = answer::answered(0, 0, 0);
+    Deed {
+        local: false,
+        numbers: numbers,
+        change: change,
+    }
+}
+
+fn with_change(change: Change) -> Deed
+    ensures { λ d. ⌜ d ≡ deedWith change ⌝ }
+{
+    let answer = change.answer;
+    let numbers = numbers_of(answer);
+    Deed {
+        local: true,
+        numbers: numbers,
+        change: change,
+    }
+}
+
+// A link or a create of a partition that is there.
+fn ask_there(kind: Kind, t: Tables, c: Command) -> Deed
+    requires { ⌜ Ready t × (argument c 0 < t .count) ⌝ }
+    ensures { λ d. ⌜ Does d true t (afterEvent (tested t (ask kind (view t) (argument c 0) (argument c 1) (c .name) (argument c 3) (argument c 4)))) ⌝ }
+{
+    let name = c.name;
+    let p = c.numbers[0];
+    let d = c.numbers[1];
+    let q = c.numbers[3];
+    let o = c.numbers[4];
+    let change = asks::ask_change(kind, t, p, d, name, q, o);
+    with_change(change)
+}
+
+fn ask(kind: Kind, t: Tables, c: Command) -> Deed
+    requires { ⌜ Ready t ⌝ }
+    ensures { λ d. ⌜ Does d true t (afterEvent (tested t (ask kind (view t) (argument c 0) (argument c 1) (c .name) (argument c 3) (argument c 4)))) ⌝ }
+{
+    let p = c.numbers[0];
+    if is_there(t.count, p) {} else {
+        return none(t);
+    }
+    ask_there(kind, t, c)
+}
+
+fn unlink(t: Tables, c: Command) -> Deed
+    requires { ⌜ Ready t ⌝ }
+    ensures { λ d. ⌜ Does d true t (respondedTo Unlink c t) ⌝ }
+{
+    let name = c.name;
+    let p = c.numbers[0];
+    let d = c.numbers[1];
+    if is_there(t.count, p) {} else {
+        return none(t);
+    }
+    let change = asks::unlink_change(t, p, d, name);
+    with_change(change)
+}
+
+fn advance(t: Tables, c: Command) -> Deed
+    requires { ⌜ Ready t ⌝ }
+    ensures { λ d. ⌜ Does d true t (respondedTo Advance c t) ⌝ }
+{
+    let p = c.numbers[0];
+    let number = c.numbers[1];
+    if is_there(t.count, p) {} else {
+        return none(t);
+    }
+    let change = advances::advance_change(t, p as usize, number);
+    with_change(change)
+}
+
+// Sender and receiver are there.
+fn deliver_there(t: Tables, c: Command) -> Deed
+    requires { ⌜ Ready t × (argument c 0 < t .count) × (argument c 1 < t .count) × (argument c 0 < maxPartitions) × (argument c 1 < maxPartitions) ⌝ }
+    ensures { λ d. ⌜ Does d true t (respondedTo Deliver c t) ⌝ }
+{
+    let s = c.numbers[0];
+    let r = c.numbers[1];
+    let change = deliveries::deliver_change(t, s as usize, r as usize);
+    with_change(change)
+}
+
+fn deliver(t: Tables, c: Command) -> Deed
+    requires { ⌜ Ready t ⌝ }
+    ensures { λ d. ⌜ Does d true t (respondedTo Deliver c t) ⌝ }
+{
+    let s = c.numbers[0];
+    let r = c.numbers[1];
+    if deliveries::are_there(t.count, s, r) {} else {
+        return none(t);
+    }
+    deliver_there(t, c)
+}
+
+fn recover(t: Tables, c: Command) -> Deed
+    requires { ⌜ Ready t ⌝ }
+    ensures { λ d. ⌜ Does d true t (respondedTo Recover c t) ⌝ }
+{
+    let p = c.numbers[0];
+    if is_there(t.count, p) {} else {
+        return none(t);
+    }
+    let change = faults::recover_change(t, p as usize);
+    with_change(change)
+}
+
+fn done_to(verb: Verb, t: Tables, c: Command) -> Deed
+    requires { ⌜ Ready t ⌝ }
+    ensures { λ d. ⌜ Does d true t (respondedTo verb c t) ⌝ }
+{
+    match verb {
+        Verb::Open => none(t),
+        Verb::Link => ask(Kind::Link, t, c),
+        Verb::Create => ask(Kind::Create, t, c),
+        Verb::Unlink => unlink(t, c),
+        Verb::Advance => advance(t, c),
+        Verb::Deliver => deliver(t, c),
+        Verb::Cut => none(t),
+        Verb::Crash => none(t),
+        Verb::Recover => recover(t, c),
+        Verb::Settle => none(t),
+        Verb::Totals => none(t),
+        Verb::Square => none(t),
+        Verb::NotUnderstood => none(t),
+    }
+}
+
+// The order is tested for these commands only: `respond` tests it for the others.
+fn is_local(verb: Verb) -> bool {
+    match verb {
+        Verb::Open => false,
+        Verb::Link => true,
+        Verb::Create => true,
+        Verb::Unlink => true,
+        Verb::Advance => true,
+        Verb::Deliver => true,
+        Verb::Cut => false,
+        Verb::Crash => false,
+        Verb::Recover => true,
+        Verb::Settle => false,
+        Verb::Totals => false,
+        Verb::Square => false,
+        Verb::NotUnderstood => false,
+    }
+}
+
+pub fn deed_of(running: bool, t: Tables, c: Command) -> Deed
+    ensures { λ d. ⌜ Does d running t (responded (record { «open» = running; tables = t }) c) ⌝ }
+{
+    if running {} else {
+        return none(t);
+    }
+    let verb = c.verb;
+    if is_local(verb) {} else {
+        return none(t);
+    }
+    if order::in_order(t) {} else {
+        return none(t);
+    }
+    done_to(verb, t, c)
+}
