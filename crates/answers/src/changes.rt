@@ -1,5 +1,5 @@
-// What an event of one partition does, before it is stored. An event hands it on in place of the tables, which are ten times its
-// size; who holds the tables stores it in their place.
+// What an event of one partition does, before it is stored. An event hands it back in place of the tables, which are eight times as
+// large; who holds the tables stores it where they stand.
 ghost use mathlib.Core.Path.{_≡_};
 ghost use Prim.Native.Nat.{_<_, _≤_};
 ghost use Rattle.protocol.specs.Bounds.{maxMessages, maxPartitions};
@@ -70,6 +70,7 @@ pub fn changes(p: usize, x: Partition, number: u32, reply: Reply) -> Change
     alone(p, x, answer)
 }
 
+// A message from q is taken, one is sent there, or both.
 pub fn exchanges(
     p: usize,
     q: usize,

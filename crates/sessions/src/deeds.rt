@@ -1,5 +1,5 @@
-// What a command does where it changes one partition only. The tables are not given back: who holds them stores the change in
-// their place, and so copies a tenth of what `respond` does.
+// What a command does where it changes one partition only: link, create, unlink, advance, deliver and recover. The tables are not
+// given back: who holds them stores the change where they stand.
 ghost use mathlib.Core.Bool.{true};
 ghost use mathlib.Core.Path.{_≡_};
 ghost use Prim.Native.Nat.{_<_};
@@ -30,6 +30,7 @@ pub struct Deed {
     pub change: Change,
 }
 
+// The command is none of these; the change is one that is not stored.
 fn none(t: Tables) -> Deed
     ensures { λ d. ⌜ d ≡ noDeed t ⌝ }
 {
