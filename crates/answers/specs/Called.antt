@@ -3,6 +3,7 @@ use mathlib.Core.Bool.{true, _&&_, _||_, not}
 use mathlib.Core.Path.{_≡_}
 use Prim.Native.Nat.{ℕ}
 use Rattle.lists.specs.Lists.{pick}
+use Rattle.protocol.specs.declared.Answer.{Answer}
 use Rattle.protocol.specs.declared.Refusal.{Refusal}
 use Rattle.protocol.specs.declared.Refusal.the-variants.{Accepted, OutOfOrder}
 use Rattle.protocol.specs.declared.Reply.{Reply}
@@ -34,5 +35,8 @@ pub record Ready (t : Tables) : Type 0 where
 abbrev pub refusedWith : Tables → Refusal → Answered
 refusedWith t why = record { answer = record { refusal = why; number = 0; reply = None }; tables = t }
 
+abbrev pub acceptance : ℕ → Reply → Answer
+acceptance n reply = record { refusal = Accepted; number = n; reply = reply }
+
 abbrev pub acceptedWith : Tables → ℕ → Reply → Answered
-acceptedWith t n reply = record { answer = record { refusal = Accepted; number = n; reply = reply }; tables = t }
+acceptedWith t n reply = record { answer = acceptance n reply; tables = t }

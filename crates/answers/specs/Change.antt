@@ -9,7 +9,6 @@ use Rattle.protocol.specs.Bounds.{maxMessages, maxPartitions}
 use Rattle.protocol.specs.declared.Answer.{Answer}
 use Rattle.protocol.specs.declared.Message.{Message}
 use Rattle.protocol.specs.declared.Refusal.{Refusal}
-use Rattle.protocol.specs.declared.Refusal.the-variants.{Accepted}
 use Rattle.protocol.specs.declared.Reply.{Reply}
 use Rattle.protocol.specs.declared.Reply.the-variants.{None}
 use Rattle.tables.specs.Slots.{zeroMessage}
@@ -17,7 +16,7 @@ use Rattle.tables.specs.View.{messagesOf, noQueue, packQueue}
 use Rattle.tables.specs.declared.Partition.{Partition}
 use Rattle.tables.specs.declared.Queue.{Queue}
 use Rattle.tables.specs.declared.Tables.{Tables}
-use Rattle.answers.specs.Called.{Answered, Ready}
+use Rattle.answers.specs.Called.{Answered, Ready, acceptance}
 pub use Rattle.answers.specs.declared.changes.Change.{Change}
 
 -- ---- the tables after a change
@@ -73,9 +72,9 @@ abbrev pub keepsWith : ℕ → Partition → Refusal → Change
 keepsWith p x why = aloneWith p x (record { refusal = why; number = 0; reply = None })
 
 abbrev pub changesWith : ℕ → Partition → ℕ → Reply → Change
-changesWith p x n reply = aloneWith p x (record { refusal = Accepted; number = n; reply = reply })
+changesWith p x n reply = aloneWith p x (acceptance n reply)
 
 -- and a message is sent to q, a message from q taken, or both
 abbrev pub exchangesWith : ℕ → ℕ → Partition → ℕ → Bool → Bool → Message → Change
 exchangesWith p q x n takes sends m =
-    record { answer = record { refusal = Accepted; number = n; reply = None }; at = p; other = q; takes = takes; sends = sends; message = m; partition = x }
+    record { answer = acceptance n None; at = p; other = q; takes = takes; sends = sends; message = m; partition = x }

@@ -6,6 +6,7 @@ ghost use Rattle.protocol.specs.Bounds.{maxMessages, maxPartitions};
 ghost use Rattle.tables.specs.View.{messagesOf, packQueue};
 ghost use Rattle.answers.specs.Change.{Applies, Sends, Takes, aloneWith, applied, changesWith, exchangesWith, keepsWith, sentIf, takenIf};
 use crate::Answered;
+use crate::accepting;
 use protocol::Answer;
 use protocol::Message;
 use protocol::Refusal;
@@ -61,12 +62,7 @@ pub fn keeps(p: usize, x: Partition, why: Refusal) -> Change
 pub fn changes(p: usize, x: Partition, number: u32, reply: Reply) -> Change
     ensures { λ c. ⌜ c ≡ changesWith p x number reply ⌝ }
 {
-    let refusal = Refusal::Accepted;
-    let answer = Answer {
-        refusal: refusal,
-        number: number,
-        reply: reply,
-    };
+    let answer = accepting(number, reply);
     alone(p, x, answer)
 }
 
@@ -82,13 +78,7 @@ pub fn exchanges(
 ) -> Change
     ensures { λ c. ⌜ c ≡ exchangesWith p q x number takes sends message ⌝ }
 {
-    let refusal = Refusal::Accepted;
-    let reply = Reply::None;
-    let answer = Answer {
-        refusal: refusal,
-        number: number,
-        reply: reply,
-    };
+    let answer = accepting(number, Reply::None);
     Change {
         answer: answer,
         at: p,

@@ -2,7 +2,7 @@
 ghost use mathlib.Core.Path.{_≡_};
 ghost use Prim.Native.Nat.{_<_};
 ghost use lib.Dec.{ltb};
-ghost use Rattle.answers.specs.Called.{acceptedWith, refusedWith};
+ghost use Rattle.answers.specs.Called.{acceptance, acceptedWith, refusedWith};
 use protocol::Answer;
 use protocol::Refusal;
 use protocol::Reply;
@@ -47,15 +47,22 @@ pub fn refused(t: Tables, why: Refusal) -> Answered
     }
 }
 
-pub fn accepted(t: Tables, number: u32, reply: Reply) -> Answered
-    ensures { λ r. ⌜ r ≡ acceptedWith t number reply ⌝ }
+// The answer of a call that is accepted.
+pub fn accepting(number: u32, reply: Reply) -> Answer
+    ensures { λ a. ⌜ a ≡ acceptance number reply ⌝ }
 {
     let refusal = Refusal::Accepted;
-    let answer = Answer {
+    Answer {
         refusal: refusal,
         number: number,
         reply: reply,
-    };
+    }
+}
+
+pub fn accepted(t: Tables, number: u32, reply: Reply) -> Answered
+    ensures { λ r. ⌜ r ≡ acceptedWith t number reply ⌝ }
+{
+    let answer = accepting(number, reply);
     Answered {
         answer: answer,
         tables: t,
