@@ -84,6 +84,13 @@ pub ruleset ifs = (take-some, send-room, taken-yes, taken-no, sent-yes, sent-no)
 
 -- ---- where a change is stored
 
+-- q and g are the queues that were read, r and y what was stored in their places
+pub change-stores : (t : Tables) (c : Change) (q : Queue) → q ≡ getD (t .queues) (fromOther c) noQueue → (r : Queue) → r ≡ takenIf (c .takes) q
+    → (g : Queue) → g ≡ getD (set (t .queues) (fromOther c) r) (toOther c) noQueue → (y : Queue) → y ≡ sentIf (c .sends) (c .message) g
+    → record { count = t .count; partitions = set (t .partitions) (c .at) (c .partition); queues = set (set (t .queues) (fromOther c) r) (toOther c) y } ≡ changed t c
+unfolding changed
+change-stores t c q f r h g v y w = rw (w, v, h, f) refl
+
 ready-most : (t : Tables) → Sized t → Ready t → (a b : ℕ) → a < maxPartitions → b < maxPartitions → (q : Queue) → q ≡ getD (t .queues) (a * maxPartitions + b) noQueue → q .count ≤ maxMessages
 ready-most t z r a b ha hb q e = rw e (let y : Queue = getD (t .queues) (a * maxPartitions + b) noQueue in tidy-count maxMessages freeMessage (y .count) (y .items) (shaped-all t z (r .shaped) .queue (a * maxPartitions + b) (omega arith)))
 
@@ -132,15 +139,10 @@ module _ (t : Tables) (z : Sized t) (c : Change) (h : Applies t c) where
         pub to-room : Sends (c .sends) g
         to-room = rw (v, taken) (h .sends)
 
-        pub change-stores : (y : Queue) → y ≡ sentIf (c .sends) (c .message) g
-            → record { count = t .count; partitions = set (t .partitions) (c .at) (c .partition); queues = set (set (t .queues) (fromOther c) r) (toOther c) y } ≡ changed t c
-        unfolding changed
-        change-stores y w = rw (w, v, taken) refl
-
         pub apply-stores : (y : Queue) → y ≡ sentIf (c .sends) (c .message) g
             → record { answer = c .answer; tables = record { count = t .count; partitions = set (t .partitions) (c .at) (c .partition); queues = set (set (t .queues) (fromOther c) r) (toOther c) y } } ≡ applied t c
         unfolding applied
-        apply-stores y w = ap (λ (u : Tables). record { answer = c .answer; tables = u }) (change-stores y w)
+        apply-stores y w = ap (λ (u : Tables). record { answer = c .answer; tables = u }) (change-stores t c q e r f g v y w)
 
 pub ruleset applying = (apply-at, apply-other, from-packed, from-most, from-some, to-packed, to-room, apply-stores)
 

@@ -18,8 +18,7 @@ use Rattle.sessions.specs.declared.Response.{Response}
 use Rattle.sessions.specs.declared.Session.{Session}
 use Rattle.sessions.specs.Deeds.{Does}
 use Rattle.sessions.specs.declared.deeds.Deed.{Deed}
-use Rattle.answers.specs.Change.{Sends, Takes, changed, fromOther, sentIf, takenIf, takenQueues, toOther}
-use Rattle.answers.specs.declared.changes.Change.{Change}
+use Rattle.answers.specs.Change.{Sends, Takes, changed, fromOther, takenIf, takenQueues, toOther}
 use Rattle.protocol.specs.Bounds.{maxMessages}
 use Rattle.tables.specs.View.{messagesOf, noQueue, packQueue}
 use Rattle.tables.specs.declared.Queue.{Queue}
@@ -146,9 +145,3 @@ module _ (d : Deed) (b : Bool) (t : Tables) (x : Response) (e : Does d b t x) (k
 
     pub to-sends : Sends (d .change .sends) g
     to-sends = rw taken (e .queued k .sends)
-
-pub stored-there : (t : Tables) (c : Change) (q : Queue) → q ≡ getD (t .queues) (fromOther c) noQueue → (r : Queue) → r ≡ takenIf (c .takes) q
-    → (g : Queue) → g ≡ getD (set (t .queues) (fromOther c) r) (toOther c) noQueue → (y : Queue) → y ≡ sentIf (c .sends) (c .message) g
-    → record { count = t .count; partitions = set (t .partitions) (c .at) (c .partition); queues = set (set (t .queues) (fromOther c) r) (toOther c) y } ≡ changed t c
-unfolding changed
-stored-there t c q f r h g v y w = rw (w, v, h, f) refl

@@ -1,4 +1,5 @@
-use Rattle.stream.proofs.Feeding.{Feeding, feed-deed, feed-kept, feed-said, feeding, from-most, from-packed, from-takes, stored-there, to-packed, to-sends}
+use Rattle.stream.proofs.Feeding.{Feeding, feed-deed, feed-kept, feed-said, feeding, from-most, from-packed, from-takes, to-packed, to-sends}
+use Rattle.answers.proofs.Applied.{change-stores}
 use Rattle.stream.specs.Feed.{midway}
 use Rattle.stream.specs.Sessions.{lineOf}
 use Prim.Native.Nat.{_-_}
@@ -118,7 +119,7 @@ loop-again c =
     (c .before .before .before .before .before .before .before .before .before .before .before .if2 .taken)
     _ _ (c .before .before .put-answer .ensures .0) (c .before .before .put-answer .ensures .1)
     _ (c .before .before .before .before .before .before .before .before .before .before .before .before .before .no-bytes .ensures)
-    _ (stored-there _ _ _ refl _ (c .before .before .before .before .before .before .before .taken-if .ensures) _ refl _ (c .before .before .before .before .sent-if .ensures))
+    _ (change-stores _ _ _ refl _ (c .before .before .before .before .before .before .before .taken-if .ensures) _ refl _ (c .before .before .before .before .sent-if .ensures))
 
 respond-requires : tie.Need-respond-requires Inv-loop μ-loop
 respond-requires c κs = search (feeding, needs)
