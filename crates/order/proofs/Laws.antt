@@ -7,7 +7,7 @@ use native.Mathlib.Omega.{arith}
 use lib.Dec.{eqb, leb, ltb}
 use lib.ListN.{getD, length, take}
 use borrow.Author.Tests.{eq-eqb, eqb-false, eqb-true, le-leb, le-ltb, lt-leb, lt-ltb, ne-eqb}
-use Rattle.lists.specs.Lists.{all, any, below, every, isNone, keep, pick}
+use Rattle.lists.specs.Lists.{all, any, apart, below, every, isNone, keep, pick}
 use Rattle.protocol.specs.Bounds.{maxEntries, maxPartitions, maxRecords}
 use Rattle.protocol.specs.Elements.{bodyFits, isRequest, isSent}
 use Rattle.protocol.specs.Order.{isAnswerTo, isRequestOf, sentAs}
@@ -125,10 +125,19 @@ taken-some zero xs h f = absurd (h refl)
 taken-some (suc n) [] h f = absurd (omega arith)
 taken-some (suc n) (x ∷ xs) h f = refl
 
--- a list of none passes every test
-pub none-fine : {A : Type 0} (f : A → Bool) (n : ℕ) (xs : List A) → n ≡ 0 → true ≡ all f (take n xs)
-unfolding all
-none-fine f n xs h = rw h refl
+-- a list of none passes every test, is in order, and has none of a kind
+module _ {A : Type 0} (f : A → Bool) (n : ℕ) (xs : List A) (none : n ≡ 0) where
+  pub none-fine : true ≡ all f (take n xs)
+  unfolding all
+  none-fine = rw none refl
+
+  pub none-listed : (g : A → A → Bool) → true ≡ every (all f (take n xs) ∷ apart g (take n xs) ∷ [])
+  unfolding all apart every
+  none-listed g = rw none refl
+
+  pub none-kept : 0 ≡ length (keep f (take n xs))
+  unfolding keep
+  none-kept = rw none refl
 
 module _ {A : Type 0} (up : Bool) (n : ℕ) (xs : List A) (bs : List Bool) (fits : n ≤ length xs) where
   pub down-talks : (not (eqb n 0) && not up) ≡ true → false ≡ every ((up || isNone (take n xs)) ∷ bs)

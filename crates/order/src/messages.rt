@@ -155,6 +155,27 @@ pub fn count_answers(q: Queue, r: Record) -> usize
     sum
 }
 
+// An empty queue is not handed on.
+pub fn requests_of(q: Queue, r: Record) -> usize
+    requires { ⌜ q .count ≤ maxMessages ⌝ }
+    ensures { λ n. ⌜ (n ≡ length (keep (isRequestOf r) (messagesOf q))) × (n ≤ maxMessages) ⌝ }
+{
+    if q.count == 0 {
+        return 0;
+    }
+    count_requests(q, r)
+}
+
+pub fn answers_to(q: Queue, r: Record) -> usize
+    requires { ⌜ q .count ≤ maxMessages ⌝ }
+    ensures { λ n. ⌜ (n ≡ length (keep (isAnswerTo r) (messagesOf q))) × (n ≤ maxMessages) ⌝ }
+{
+    if q.count == 0 {
+        return 0;
+    }
+    count_answers(q, r)
+}
+
 // Whether a record, if it is sent towards r, has one message: in the queue q there or in the queue back.
 pub fn record_answered(x: Record, r: u8, q: Queue, back: Queue) -> bool
     requires { ⌜ (q .count ≤ maxMessages) × (back .count ≤ maxMessages) ⌝ }
@@ -167,8 +188,8 @@ pub fn record_answered(x: Record, r: u8, q: Queue, back: Queue) -> bool
     if x.partition != r {
         return true;
     }
-    let requests = count_requests(q, x);
-    let answers = count_answers(back, x);
+    let requests = requests_of(q, x);
+    let answers = answers_to(back, x);
     requests + answers == 1
 }
 
@@ -214,6 +235,9 @@ pub fn pair_in_order(
     }
     if queue_in_order(xs, ys, s, r, q) {} else {
         return false;
+    }
+    if xs.count == 0 {
+        return true;
     }
     records_answered(xs, r, q, back)
 }

@@ -175,6 +175,9 @@ pub fn entries_in_order(x: Entries, n: usize, last: u32) -> bool
     if shape::entries_shaped(x) {} else {
         return false;
     }
+    if x.count == 0 {
+        return true;
+    }
     if each_entry_in_order(x, n, last) {} else {
         return false;
     }
@@ -226,6 +229,9 @@ pub fn backpointers_in_order(x: Backpointers, n: usize, lasts: [u32; MAX_PARTITI
 {
     if shape::backpointers_shaped(x) {} else {
         return false;
+    }
+    if x.count == 0 {
+        return true;
     }
     if each_backpointer_in_order(x, n, lasts) {} else {
         return false;
@@ -279,6 +285,9 @@ pub fn records_in_order(x: Records, n: usize, last: u32) -> bool
     if shape::records_shaped(x) {} else {
         return false;
     }
+    if x.count == 0 {
+        return true;
+    }
     if each_record_in_order(x, n, last) {} else {
         return false;
     }
@@ -326,24 +335,20 @@ pub fn partition_in_order(p: Partition, n: usize, lasts: [u32; MAX_PARTITIONS]) 
     ensures { λ r. ⌜ r ≡ partitionFine n lasts p ⌝ }
 {
     let last = p.last;
-    let entries = p.entries;
-    if entries_in_order(entries, n, last) {} else {
+    if entries_in_order(p.entries, n, last) {} else {
         return false;
     }
-    let backpointers = p.backpointers;
-    if backpointers_in_order(backpointers, n, lasts) {} else {
+    if backpointers_in_order(p.backpointers, n, lasts) {} else {
         return false;
     }
-    let records = p.records;
-    if records_in_order(records, n, last) {} else {
+    if records_in_order(p.records, n, last) {} else {
         return false;
     }
-    if has_room(entries, records) {} else {
+    if has_room(p.entries, p.records) {} else {
         return false;
     }
-    let up = p.up;
-    if up {
+    if p.up {
         return true;
     }
-    all_ready(records)
+    all_ready(p.records)
 }

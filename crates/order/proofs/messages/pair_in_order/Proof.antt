@@ -3,7 +3,7 @@ use Rattle.order.specs.Clauses.{pairFine}
 use Rattle.lists.proofs.Chains.{everys}
 use Rattle.lists.proofs.Tidies.{tidy-fits}
 use Rattle.tables.proofs.Known.{messages-fit}
-use Rattle.order.proofs.Laws.{quiets}
+use Rattle.order.proofs.Laws.{none-fine, quiets}
 use Rattle.order.proofs.messages.pair_in_order.Statement.{statement}
 use Rattle.order.proofs.messages.pair_in_order.Tie as tie
 
@@ -29,12 +29,16 @@ returns-4 : tie.Need-returns-4
 unfolding pairFine
 returns-4 c = search (quiets, everys, tidy-fits, messages-fit, needs) depth 9
 
+returns-5 : tie.Need-returns-5
+unfolding pairFine
+returns-5 c = search (quiets, everys, none-fine, tidy-fits, messages-fit, needs) depth 9
+
 records-answered-requires : tie.Need-records-answered-requires
 records-answered-requires c κs = search (tidy-fits, needs)
 
-returns-5 : tie.Need-returns-5
+returns-6 : tie.Need-returns-6
 unfolding pairFine
-returns-5 c = search (quiets, everys, tidy-fits, messages-fit, needs) depth 9
+returns-6 c = search (quiets, everys, tidy-fits, messages-fit, needs) depth 9
 
 pub pair-in-order-spec : {M : Type 1} → statement M
 pair-in-order-spec =
@@ -46,5 +50,6 @@ pair-in-order-spec =
     returns-3
     queue-in-order-requires
     returns-4
+    returns-5
     records-answered-requires
-    returns-5)
+    returns-6)

@@ -12,11 +12,11 @@ returns c = search (answereds, needs)
 returns-2 : tie.Need-returns-2
 returns-2 c = search (answereds, needs)
 
-count-requests-requires : tie.Need-count-requests-requires
-count-requests-requires c κs = search (answereds, needs)
+requests-of-requires : tie.Need-requests-of-requires
+requests-of-requires c κs = search (answereds, needs)
 
-count-answers-requires : tie.Need-count-answers-requires
-count-answers-requires c κs = search (answereds, needs)
+answers-to-requires : tie.Need-answers-to-requires
+answers-to-requires c κs = search (answereds, needs)
 
 add-result : tie.Need-add-result
 add-result c = search (answereds, needs)
@@ -31,7 +31,7 @@ record-answered-spec =
     is-sent-requires
     returns
     returns-2
-    count-requests-requires
-    count-answers-requires
+    requests-of-requires
+    answers-to-requires
     add-result
     returns-3)

@@ -2,6 +2,7 @@ use borrow.Author.Needs.{needs}
 use Rattle.order.specs.Clauses.{recordsFine}
 use Rattle.lists.proofs.Chains.{everys}
 use Rattle.lists.proofs.Tidies.{tidy-fits}
+use Rattle.order.proofs.Laws.{none-listed}
 use Rattle.order.proofs.partition.records_in_order.Statement.{statement}
 use Rattle.order.proofs.partition.records_in_order.Tie as tie
 
@@ -12,19 +13,23 @@ returns : tie.Need-returns
 unfolding recordsFine
 returns c = search (everys, tidy-fits, needs)
 
-each-record-in-order-requires : tie.Need-each-record-in-order-requires
-each-record-in-order-requires c κs = search (tidy-fits, needs)
-
 returns-2 : tie.Need-returns-2
 unfolding recordsFine
-returns-2 c = search (everys, tidy-fits, needs)
+returns-2 c = search (none-listed, everys, tidy-fits, needs)
 
-records-apart-requires : tie.Need-records-apart-requires
-records-apart-requires c κs = search (tidy-fits, needs)
+each-record-in-order-requires : tie.Need-each-record-in-order-requires
+each-record-in-order-requires c κs = search (tidy-fits, needs)
 
 returns-3 : tie.Need-returns-3
 unfolding recordsFine
 returns-3 c = search (everys, tidy-fits, needs)
+
+records-apart-requires : tie.Need-records-apart-requires
+records-apart-requires c κs = search (tidy-fits, needs)
+
+returns-4 : tie.Need-returns-4
+unfolding recordsFine
+returns-4 c = search (everys, tidy-fits, needs)
 
 pub records-in-order-spec : {M : Type 1} → statement M
 records-in-order-spec =
@@ -32,7 +37,8 @@ records-in-order-spec =
     (tie.spec
     records-shaped-requires
     returns
-    each-record-in-order-requires
     returns-2
+    each-record-in-order-requires
+    returns-3
     records-apart-requires
-    returns-3)
+    returns-4)
