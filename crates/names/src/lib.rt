@@ -1,11 +1,13 @@
 // A name as document 01 has it: its length and eight bytes, the unused ones zero; when two are the same, and when one is good.
-ghost use Prim.Native.Nat.{_≤_};
+ghost use Prim.Native.Nat.{_<_, _≤_};
 ghost use mathlib.Core.Path.{_≡_};
 ghost use lib.ListN.{take};
 ghost use Rattle.lists.specs.Lists.{all, tidy};
-ghost use Rattle.names.specs.Names.{nameBytes, isLetter, isZero, goodName, sameName, zeroName};
+ghost use Rattle.names.specs.Names.{byteValues, nameBytes, isLetter, isZero, goodName, sameName, wordOf, zeroName};
 
 pub const NAME_BYTES: usize = 8;
+
+const BYTE_VALUES: u64 = 256;
 
 pub const SLASH: u8 = 47;
 
@@ -36,6 +38,36 @@ pub fn same(a: Name, b: Name) -> bool
         i += 1;
     }
     same
+}
+
+fn value(b: u8) -> u64
+    ensures { λ r. ⌜ (r ≡ b) × (r < byteValues) ⌝ }
+{
+    b as u64
+}
+
+// The eight bytes as one number, the first the least.
+fn word(n: Name) -> u64
+    ensures { λ r. ⌜ r ≡ wordOf (n .bytes) ⌝ }
+{
+    let bytes = n.bytes;
+    let mut word: u64 = 0;
+    let mut i = NAME_BYTES;
+    while 0 < i {
+        i -= 1;
+        let b = bytes[i];
+        let here = value(b);
+        word = here + BYTE_VALUES * word;
+    }
+    word
+}
+
+// Whether it is the name of a free slot: its bytes are looked at all at once.
+pub fn is_unnamed(n: Name) -> bool
+    ensures { λ r. ⌜ r ≡ sameName n zeroName ⌝ }
+{
+    let unspelled = word(n) == 0;
+    (n.len == 0) & unspelled
 }
 
 pub fn is_letter(b: u8) -> bool

@@ -174,7 +174,7 @@ pub fn free_entry(e: Entry) -> bool
     ensures { λ r. ⌜ r ≡ freeEntry e ⌝ }
 {
     let name = e.name;
-    let unnamed = names::same(name, names::zero());
+    let unnamed = names::is_unnamed(name);
     (e.number == 0) & ((e.directory == 0) & ((e.partition == 0) & ((e.object == 0) & unnamed)))
 }
 
@@ -182,7 +182,7 @@ pub fn free_backpointer(b: Backpointer) -> bool
     ensures { λ r. ⌜ r ≡ freeBackpointer b ⌝ }
 {
     let name = b.name;
-    let unnamed = names::same(name, names::zero());
+    let unnamed = names::is_unnamed(name);
     (b.number == 0) & ((b.directory == 0) & ((b.parent == 0) & ((b.object == 0) & unnamed)))
 }
 
@@ -190,7 +190,7 @@ pub fn free_record(r: Record) -> bool
     ensures { λ a. ⌜ a ≡ freeRecord r ⌝ }
 {
     let name = r.name;
-    let unnamed = names::same(name, names::zero());
+    let unnamed = names::is_unnamed(name);
     let kind = r.kind;
     let linked = kind_number(kind) == 1;
     let stage = r.stage;
@@ -204,7 +204,7 @@ pub fn free_message(x: Message) -> bool
     ensures { λ r. ⌜ r ≡ freeMessage x ⌝ }
 {
     let name = x.name;
-    let unnamed = names::same(name, names::zero());
+    let unnamed = names::is_unnamed(name);
     let kind = x.kind;
     let linked = kind_number(kind) == 1;
     let body = x.body;

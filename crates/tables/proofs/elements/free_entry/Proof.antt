@@ -3,15 +3,12 @@ use Rattle.tables.specs.Slots.{freeEntry}
 use Rattle.tables.proofs.elements.free_entry.Statement.{statement}
 use Rattle.tables.proofs.elements.free_entry.Tie as tie
 
-zero-requires : tie.Need-zero-requires
-zero-requires c κs = search needs
-
-same-requires : tie.Need-same-requires
-same-requires c κs = search needs
+is-unnamed-requires : tie.Need-is-unnamed-requires
+is-unnamed-requires c κs = search needs
 
 returns : tie.Need-returns
 unfolding freeEntry
 returns c = cc
 
 pub free-entry-spec : {M : Type 1} → statement M
-free-entry-spec = tie.close (tie.spec zero-requires same-requires returns)
+free-entry-spec = tie.close (tie.spec is-unnamed-requires returns)
