@@ -2,7 +2,7 @@
 use mathlib.Core.Bool.{Bool, _&&_, false, true}
 use mathlib.Core.List.{[], _++_, _∷_}
 use mathlib.Core.Path.{_∙_, _≡_, ap, refl, sym}
-use Prim.Native.Nat.{_+_, _<_, _≤_, suc, ℕ}
+use Prim.Native.Nat.{_+_, _<_, _^_, _≤_, suc, ℕ}
 use native.Mathlib.Omega.{arith}
 use native.Mathlib.Numerals.{add-one}
 use lib.Dec.{ltb}
@@ -156,6 +156,10 @@ module _ (t : Tables) (z : Sized t) (r : Ready t) (p : ℕ) (h : p < t .count) (
   pub open-room : Opens t p → x .records .count < maxRecords
   open-room y = rw e (y .records)
 
+  -- the number that is given is one of the type's
+  pub open-number : Opens t p → x .last + 1 < 2 ^ 32
+  open-number y = let l : x .last < largestNumber = rw e (y .last) in omega arith
+
   pub opened-ask : (k : Kind) (d : ℕ) (s : Name) (q o n : ℕ) (c : Record) (l : Records) (w : Change)
       → n ≡ x .last + 1 → c ≡ asked k d s q o n → l ≡ packRecords (recordsOf (x .records) ++ c ∷ [])
       → w ≡ changesWith p (record { up = x .up; last = n; entries = x .entries; backpointers = x .backpointers; records = l }) n None → applied t w ≡ stored t (openAsk k (view t) p d s q o)
@@ -172,4 +176,4 @@ module _ (t : Tables) (z : Sized t) (r : Ready t) (p : ℕ) (h : p < t .count) (
       ∙ ap (λ (i : Model). stored t (accept n None i)) (u (withLast n (partition m p)))
       ∙ rw (hc, v) refl
 
-pub ruleset opening = (open-records, open-room, opened-ask)
+pub ruleset opening = (open-records, open-room, open-number, opened-ask)

@@ -1,4 +1,5 @@
 // Link, create and unlink: an ask opens a ready record (document 01, 'The nine events', 1 to 3).
+// Partition p is read once, by who calls, and handed to each layer as `own`: a layer that read t at p would copy the whole tables.
 ghost use mathlib.Core.List.{_∷_, []};
 ghost use mathlib.Core.Path.{_≡_};
 ghost use Prim.Native.Nat.{_<_, _≤_};
@@ -34,6 +35,7 @@ use tables::LARGEST_NUMBER;
 use tables::MAX_ENTRIES;
 use tables::MAX_RECORDS;
 use tables::OBJECTS;
+use tables::Partition;
 use tables::Records;
 use tables::Tables;
 use tables::reads;
@@ -91,75 +93,108 @@ fn asked_record(
 // ---- link and create
 
 // The number is given, and the record opened.
-fn open_ask(kind: Kind, t: Tables, p: usize, d: u8, name: Name, q: u8, o: u8) -> Change
-    requires { ⌜ Ready t × (p < t .count) × (p < maxPartitions) × Opens t p ⌝ }
+fn open_ask(
+    kind: Kind,
+    t: Tables,
+    own: Partition,
+    p: usize,
+    d: u8,
+    name: Name,
+    q: u8,
+    o: u8,
+) -> Change
+    requires { ⌜ Ready t × (p < t .count) × (p < maxPartitions) × Opens t p × (own ≡ partitionAt t p) ⌝ }
     ensures { λ c. ⌜ applied t c ≡ stored t (openAsk kind (view t) p d name q o) ⌝ }
     ensures { λ c. ⌜ Applies t c ⌝ }
 {
-    let mut x = t.partitions[p];
-    let number = x.last + 1;
+    let number = own.last + 1;
     let record = asked_record(kind, d, name, q, o, number);
-    let records = x.records;
+    let records = own.records;
     let opened = writes::add_record(records, record);
+    let mut x = own;
     x.last = number;
     x.records = opened;
     changes(p, x, number, Reply::None)
 }
 
 // The refusals that look into the tables of p.
-fn ask_tables(kind: Kind, t: Tables, p: usize, d: u8, name: Name, q: u8, o: u8) -> Change
-    requires { ⌜ Ready t × (p < t .count) × (p < maxPartitions) ⌝ }
+fn ask_tables(
+    kind: Kind,
+    t: Tables,
+    own: Partition,
+    p: usize,
+    d: u8,
+    name: Name,
+    q: u8,
+    o: u8,
+) -> Change
+    requires { ⌜ Ready t × (p < t .count) × (p < maxPartitions) × (own ≡ partitionAt t p) ⌝ }
     ensures { λ c. ⌜ applied t c ≡ stored t (askTables kind (view t) p d name q o) ⌝ }
     ensures { λ c. ⌜ Applies t c ⌝ }
 {
-    let x = t.partitions[p];
-    if is_free(x.entries, d, name) {} else {
-        return keeps(p, x, Refusal::NameExists);
+    if is_free(own.entries, d, name) {} else {
+        return keeps(p, own, Refusal::NameExists);
     }
-    if x.last < LARGEST_NUMBER {} else {
-        return keeps(p, x, Refusal::NumbersSpent);
+    if own.last < LARGEST_NUMBER {} else {
+        return keeps(p, own, Refusal::NumbersSpent);
     }
-    if x.records.count < MAX_RECORDS {} else {
-        return keeps(p, x, Refusal::LogFull);
+    if own.records.count < MAX_RECORDS {} else {
+        return keeps(p, own, Refusal::LogFull);
     }
-    if reads::claimed(x.entries, x.records) < MAX_ENTRIES {} else {
-        return keeps(p, x, Refusal::EntriesFull);
+    if reads::claimed(own.entries, own.records) < MAX_ENTRIES {} else {
+        return keeps(p, own, Refusal::EntriesFull);
     }
-    open_ask(kind, t, p, d, name, q, o)
+    open_ask(kind, t, own, p, d, name, q, o)
 }
 
 // The arguments are in range.
-fn ask_placed(kind: Kind, t: Tables, p: u32, d: u32, name: Name, q: u32, o: u32) -> Change
-    requires { ⌜ Ready t × Placed t p d q o ⌝ }
+fn ask_placed(
+    kind: Kind,
+    t: Tables,
+    own: Partition,
+    p: u32,
+    d: u32,
+    name: Name,
+    q: u32,
+    o: u32,
+) -> Change
+    requires { ⌜ Ready t × Placed t p d q o × (own ≡ partitionAt t p) ⌝ }
     ensures { λ c. ⌜ applied t c ≡ stored t (ask kind (view t) p d name q o) ⌝ }
     ensures { λ c. ⌜ Applies t c ⌝ }
 {
     let at = p as usize;
-    let x = t.partitions[at];
     if names::good(name) {} else {
-        return keeps(at, x, Refusal::BadName);
+        return keeps(at, own, Refusal::BadName);
     }
-    if x.up {} else {
-        return keeps(at, x, Refusal::Down);
+    if own.up {} else {
+        return keeps(at, own, Refusal::Down);
     }
     let directory = small(d);
     let partition = small(q);
     let object = small(o);
-    ask_tables(kind, t, at, directory, name, partition, object)
+    ask_tables(kind, t, own, at, directory, name, partition, object)
 }
 
 // What link or create does to partition p, which is there: it is stored by who holds the tables.
-pub fn ask_change(kind: Kind, t: Tables, p: u32, d: u32, name: Name, q: u32, o: u32) -> Change
-    requires { ⌜ Ready t × (p < t .count) ⌝ }
+pub fn ask_change(
+    kind: Kind,
+    t: Tables,
+    own: Partition,
+    p: u32,
+    d: u32,
+    name: Name,
+    q: u32,
+    o: u32,
+) -> Change
+    requires { ⌜ Ready t × (p < t .count) × (own ≡ partitionAt t p) ⌝ }
     ensures { λ c. ⌜ applied t c ≡ stored t (ask kind (view t) p d name q o) ⌝ }
     ensures { λ c. ⌜ Applies t c ⌝ }
 {
     if ask_in_range(t.count, p, d, q, o) {} else {
         let at = p as usize;
-        let x = t.partitions[at];
-        return keeps(at, x, Refusal::OutOfRange);
+        return keeps(at, own, Refusal::OutOfRange);
     }
-    ask_placed(kind, t, p, d, name, q, o)
+    ask_placed(kind, t, own, p, d, name, q, o)
 }
 
 fn ask_in_order(kind: Kind, t: Tables, p: u32, d: u32, name: Name, q: u32, o: u32) -> Answered
@@ -169,7 +204,9 @@ fn ask_in_order(kind: Kind, t: Tables, p: u32, d: u32, name: Name, q: u32, o: u3
     if is_there(t.count, p) {} else {
         return refused(t, Refusal::OutOfRange);
     }
-    let change = ask_change(kind, t, p, d, name, q, o);
+    let at = p as usize;
+    let own = t.partitions[at];
+    let change = ask_change(kind, t, own, p, d, name, q, o);
     apply(t, change)
 }
 
@@ -213,49 +250,47 @@ fn unlink_record(e: Entry) -> Record
     }
 }
 
-fn open_unlink(t: Tables, p: usize, e: Entry) -> Change
-    requires { ⌜ Ready t × (p < t .count) × (p < maxPartitions) × (partitionAt t p .records .count < maxRecords) ⌝ }
+fn open_unlink(t: Tables, own: Partition, p: usize, e: Entry) -> Change
+    requires { ⌜ Ready t × (p < t .count) × (p < maxPartitions) × (partitionAt t p .records .count < maxRecords) × (own ≡ partitionAt t p) ⌝ }
     ensures { λ c. ⌜ applied t c ≡ stored t (accept (e .number) None (openRecord (view t) p (unlinkOf e))) ⌝ }
     ensures { λ c. ⌜ Applies t c ⌝ }
 {
-    let mut x = t.partitions[p];
     let record = unlink_record(e);
-    let records = x.records;
+    let records = own.records;
     let more = writes::add_record(records, record);
+    let mut x = own;
     x.records = more;
     changes(p, x, e.number, Reply::None)
 }
 
 // The entry that stands under the name.
-fn unlink_entry(t: Tables, p: usize, e: Entry) -> Change
-    requires { ⌜ Ready t × (p < t .count) × (p < maxPartitions) ⌝ }
+fn unlink_entry(t: Tables, own: Partition, p: usize, e: Entry) -> Change
+    requires { ⌜ Ready t × (p < t .count) × (p < maxPartitions) × (own ≡ partitionAt t p) ⌝ }
     ensures { λ c. ⌜ applied t c ≡ stored t (unlinkFound (view t) p (e ∷ [])) ⌝ }
     ensures { λ c. ⌜ Applies t c ⌝ }
 {
-    let x = t.partitions[p];
-    let records = x.records;
+    let records = own.records;
     if is_unopened(records, e.number) {} else {
-        return keeps(p, x, Refusal::RecordOpen);
+        return keeps(p, own, Refusal::RecordOpen);
     }
     if records.count < MAX_RECORDS {} else {
-        return keeps(p, x, Refusal::LogFull);
+        return keeps(p, own, Refusal::LogFull);
     }
-    open_unlink(t, p, e)
+    open_unlink(t, own, p, e)
 }
 
-fn unlink_tables(t: Tables, p: usize, d: u8, name: Name) -> Change
-    requires { ⌜ Ready t × (p < t .count) × (p < maxPartitions) ⌝ }
+fn unlink_tables(t: Tables, own: Partition, p: usize, d: u8, name: Name) -> Change
+    requires { ⌜ Ready t × (p < t .count) × (p < maxPartitions) × (own ≡ partitionAt t p) ⌝ }
     ensures { λ c. ⌜ applied t c ≡ stored t (unlinkFound (view t) p (keep (standsUnder d name) (partition (view t) p .entries))) ⌝ }
     ensures { λ c. ⌜ Applies t c ⌝ }
 {
-    let x = t.partitions[p];
-    let entries = x.entries;
+    let entries = own.entries;
     let found = reads::find_name(entries, d, name);
     match found {
-        Found::Nothing => keeps(p, x, Refusal::NameAbsent),
+        Found::Nothing => keeps(p, own, Refusal::NameAbsent),
         Found::At(i) => {
             let e = entries.items[i];
-            unlink_entry(t, p, e)
+            unlink_entry(t, own, p, e)
         }
     }
 }
@@ -269,35 +304,33 @@ fn in_directory(n: usize, p: u32, d: u32) -> bool
     d < DIRECTORIES as u32
 }
 
-fn unlink_placed(t: Tables, p: u32, d: u32, name: Name) -> Change
-    requires { ⌜ Ready t × PlacedIn t p d ⌝ }
+fn unlink_placed(t: Tables, own: Partition, p: u32, d: u32, name: Name) -> Change
+    requires { ⌜ Ready t × PlacedIn t p d × (own ≡ partitionAt t p) ⌝ }
     ensures { λ c. ⌜ applied t c ≡ stored t (unlink (view t) p d name) ⌝ }
     ensures { λ c. ⌜ Applies t c ⌝ }
 {
     let at = p as usize;
-    let x = t.partitions[at];
     if names::good(name) {} else {
-        return keeps(at, x, Refusal::BadName);
+        return keeps(at, own, Refusal::BadName);
     }
-    if x.up {} else {
-        return keeps(at, x, Refusal::Down);
+    if own.up {} else {
+        return keeps(at, own, Refusal::Down);
     }
     let directory = small(d);
-    unlink_tables(t, at, directory, name)
+    unlink_tables(t, own, at, directory, name)
 }
 
 // What unlink does to partition p, which is there: it is stored by who holds the tables.
-pub fn unlink_change(t: Tables, p: u32, d: u32, name: Name) -> Change
-    requires { ⌜ Ready t × (p < t .count) ⌝ }
+pub fn unlink_change(t: Tables, own: Partition, p: u32, d: u32, name: Name) -> Change
+    requires { ⌜ Ready t × (p < t .count) × (own ≡ partitionAt t p) ⌝ }
     ensures { λ c. ⌜ applied t c ≡ stored t (unlink (view t) p d name) ⌝ }
     ensures { λ c. ⌜ Applies t c ⌝ }
 {
     if in_directory(t.count, p, d) {} else {
         let at = p as usize;
-        let x = t.partitions[at];
-        return keeps(at, x, Refusal::OutOfRange);
+        return keeps(at, own, Refusal::OutOfRange);
     }
-    unlink_placed(t, p, d, name)
+    unlink_placed(t, own, p, d, name)
 }
 
 pub fn unlink_in_order(t: Tables, p: u32, d: u32, name: Name) -> Answered
@@ -307,6 +340,8 @@ pub fn unlink_in_order(t: Tables, p: u32, d: u32, name: Name) -> Answered
     if is_there(t.count, p) {} else {
         return refused(t, Refusal::OutOfRange);
     }
-    let change = unlink_change(t, p, d, name);
+    let at = p as usize;
+    let own = t.partitions[at];
+    let change = unlink_change(t, own, p, d, name);
     apply(t, change)
 }

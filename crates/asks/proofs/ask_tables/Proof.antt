@@ -6,12 +6,6 @@ use borrow.Author.Needs.{needs}
 use Rattle.asks.proofs.ask_tables.Statement.{statement}
 use Rattle.asks.proofs.ask_tables.Tie as tie
 
-mul-x : tie.Need-mul-x
-mul-x c = search (asktables, refused-applies, read-entries, read-records, ready-stored, sized, needs)
-
-element-copy-out-x : tie.Need-element-copy-out-x
-element-copy-out-x c = search (asktables, refused-applies, read-entries, read-records, ready-stored, sized, needs)
-
 is-free-requires : tie.Need-is-free-requires
 is-free-requires c κs = search (asktables, refused-applies, read-entries, read-records, ready-stored, sized, needs)
 
@@ -52,8 +46,6 @@ pub ask-tables-spec : {M : Type 1} → statement M
 ask-tables-spec =
     tie.close
     (tie.spec
-    mul-x
-    element-copy-out-x
     is-free-requires
     keeps-requires
     returns

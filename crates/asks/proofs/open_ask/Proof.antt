@@ -5,12 +5,6 @@ use borrow.Author.Needs.{needs}
 use Rattle.asks.proofs.open_ask.Statement.{statement}
 use Rattle.asks.proofs.open_ask.Tie as tie
 
-mul-x : tie.Need-mul-x
-mul-x c = search (opening, changed-applies, sized, needs)
-
-element-copy-out-x : tie.Need-element-copy-out-x
-element-copy-out-x c = search (opening, changed-applies, sized, needs)
-
 add-number : tie.Need-add-number
 add-number c = search (opening, changed-applies, sized, needs)
 
@@ -30,8 +24,6 @@ pub open-ask-spec : {M : Type 1} → statement M
 open-ask-spec =
     tie.close
     (tie.spec
-    mul-x
-    element-copy-out-x
     add-number
     asked-record-requires
     add-record-requires

@@ -6,12 +6,6 @@ use borrow.Author.Needs.{needs}
 use Rattle.asks.proofs.open_unlink.Statement.{statement}
 use Rattle.asks.proofs.open_unlink.Tie as tie
 
-mul-x : tie.Need-mul-x
-mul-x c = search (unlinktables, open-records, changed-applies, sized, needs)
-
-element-copy-out-x : tie.Need-element-copy-out-x
-element-copy-out-x c = search (unlinktables, open-records, changed-applies, sized, needs)
-
 unlink-record-requires : tie.Need-unlink-record-requires
 unlink-record-requires c κs = search (unlinktables, open-records, changed-applies, sized, needs)
 
@@ -28,8 +22,6 @@ pub open-unlink-spec : {M : Type 1} → statement M
 open-unlink-spec =
     tie.close
     (tie.spec
-    mul-x
-    element-copy-out-x
     unlink-record-requires
     add-record-requires
     changes-requires

@@ -6,12 +6,6 @@ use borrow.Author.Needs.{needs}
 use Rattle.asks.proofs.unlink_entry.Statement.{statement}
 use Rattle.asks.proofs.unlink_entry.Tie as tie
 
-mul-x : tie.Need-mul-x
-mul-x c = search (unlinktables, refused-applies, read-records, ready-stored, sized, needs)
-
-element-copy-out-x : tie.Need-element-copy-out-x
-element-copy-out-x c = search (unlinktables, refused-applies, read-records, ready-stored, sized, needs)
-
 is-unopened-requires : tie.Need-is-unopened-requires
 is-unopened-requires c κs = search (unlinktables, refused-applies, read-records, ready-stored, sized, needs)
 
@@ -37,8 +31,6 @@ pub unlink-entry-spec : {M : Type 1} → statement M
 unlink-entry-spec =
     tie.close
     (tie.spec
-    mul-x
-    element-copy-out-x
     is-unopened-requires
     keeps-requires
     returns

@@ -6,12 +6,6 @@ use borrow.Author.Needs.{needs}
 use Rattle.asks.proofs.unlink_placed.Statement.{statement}
 use Rattle.asks.proofs.unlink_placed.Tie as tie
 
-mul-x : tie.Need-mul-x
-mul-x c = search (unlinkplaces, refused-applies, ready-stored, sized, needs)
-
-element-copy-out-x : tie.Need-element-copy-out-x
-element-copy-out-x c = search (unlinkplaces, refused-applies, ready-stored, sized, needs)
-
 good-requires : tie.Need-good-requires
 good-requires c κs = search (unlinkplaces, refused-applies, ready-stored, sized, needs)
 
@@ -40,8 +34,6 @@ pub unlink-placed-spec : {M : Type 1} → statement M
 unlink-placed-spec =
     tie.close
     (tie.spec
-    mul-x
-    element-copy-out-x
     good-requires
     keeps-requires
     returns

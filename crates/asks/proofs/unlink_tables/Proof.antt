@@ -7,12 +7,6 @@ use borrow.Author.Needs.{needs}
 use Rattle.asks.proofs.unlink_tables.Statement.{statement}
 use Rattle.asks.proofs.unlink_tables.Tie as tie
 
-mul-x : tie.Need-mul-x
-mul-x c = search (unlinktables, refused-applies, read-entries, ready-stored, found-below, found-in, found-fits, sized, needs)
-
-element-copy-out-x : tie.Need-element-copy-out-x
-element-copy-out-x c = search (unlinktables, refused-applies, read-entries, ready-stored, found-below, found-in, found-fits, sized, needs)
-
 find-name-requires : tie.Need-find-name-requires
 find-name-requires c κs = search (unlinktables, refused-applies, read-entries, ready-stored, found-below, found-in, found-fits, sized, needs)
 
@@ -44,8 +38,6 @@ pub unlink-tables-spec : {M : Type 1} → statement M
 unlink-tables-spec =
     tie.close
     (tie.spec
-    mul-x
-    element-copy-out-x
     find-name-requires
     enum-told
     keeps-requires
