@@ -1,7 +1,7 @@
 // Deliver: the oldest message from a sender to a receiver (document 01, 'The nine events', 5).
 ghost use mathlib.Core.Bool.{_&&_, true};
 ghost use mathlib.Core.Path.{_≡_};
-ghost use Prim.Native.Nat.{_<_, _≤_};
+ghost use Prim.Native.Nat.{_*_, _+_, _<_, _≤_};
 ghost use lib.Dec.{ltb};
 ghost use lib.ListN.{length};
 ghost use Rattle.lists.specs.Lists.{keep, mapIf, without};
@@ -12,7 +12,7 @@ ghost use Rattle.protocol.specs.Tables.{inStage, partition, queue, recordBears,
 ghost use Rattle.protocol.specs.declared.Kind.the-variants.{Link};
 ghost use Rattle.protocol.specs.declared.Reply.the-variants.{None};
 ghost use Rattle.protocol.specs.declared.Verdict.the-variants.{AddsIt, DropsIt};
-ghost use Rattle.tables.specs.View.{backpointersOf, packBackpointers, packRecords, recordsOf, view};
+ghost use Rattle.tables.specs.View.{backpointersOf, packBackpointers, packRecords, partitionAt, queueAt, recordsOf, view};
 ghost use Rattle.answers.specs.Called.{Ready, stored};
 ghost use Rattle.answers.specs.Change.{Applies, applied, exchangesWith};
 ghost use Rattle.deliveries.specs.Taken.{Answers, Lands, OneExactly, Received, takenFrom};
@@ -33,6 +33,7 @@ use protocol::Stage;
 use protocol::Verdict;
 use tables::Backpointers;
 use tables::Partition;
+use tables::Queue;
 use tables::Records;
 use tables::Tables;
 use tables::reads;
@@ -40,7 +41,8 @@ use tables::writes;
 
 mod verdict;
 
-// What is received gives a change of the tables t, in which the message x still stands in the queue.
+// What is received gives a change of the tables t, in which the message x still stands in the queue. Each layer is handed own,
+// partition r there: one that read it would copy all of t.
 
 // ---- a request from s, at the object's partition r
 
@@ -101,66 +103,64 @@ fn take_and_say(own: Partition, s: usize, r: usize, x: Message, body: Body) -> C
     exchanges(r, s, own, x.number, true, true, answer)
 }
 
-fn say(t: Tables, s: usize, r: usize, x: Message, body: Body) -> Change
-    requires { ⌜ Answers t s r ⌝ }
+fn say(t: Tables, own: Partition, s: usize, r: usize, x: Message, body: Body) -> Change
+    requires { ⌜ Answers t s r × (own ≡ partitionAt t r) ⌝ }
     ensures { λ c. ⌜ applied t c ≡ stored t (accept (x .number) None (send (takenFrom t s r) r s (answerTo x body))) ⌝ }
     ensures { λ c. ⌜ Applies t c ⌝ }
 {
-    let own = t.partitions[r];
     take_and_say(own, s, r, x, body)
 }
 
-fn add(t: Tables, s: usize, r: usize, x: Message) -> Change
-    requires { ⌜ Answers t s r × (AddsIt ≡ verdict (partition (view t) r) s x) ⌝ }
+fn add(t: Tables, own: Partition, s: usize, r: usize, x: Message) -> Change
+    requires { ⌜ Answers t s r × (AddsIt ≡ verdict (partition (view t) r) s x) × (own ≡ partitionAt t r) ⌝ }
     ensures { λ c. ⌜ applied t c ≡ stored t (accept (x .number) None (carryOut (takenFrom t s r) s r x AddsIt)) ⌝ }
     ensures { λ c. ⌜ Applies t c ⌝ }
 {
-    let mut own = t.partitions[r];
     let backpointers = own.backpointers;
     let parent = number_of(s);
     let item = backpointer_of(parent, x);
     let more = writes::add_backpointer(backpointers, item);
-    own.backpointers = more;
+    let mut next = own;
+    next.backpointers = more;
     let yes = Body::Yes;
-    take_and_say(own, s, r, x, yes)
+    take_and_say(next, s, r, x, yes)
 }
 
-fn remove(t: Tables, s: usize, r: usize, x: Message) -> Change
-    requires { ⌜ Answers t s r × OneExactly t s r x ⌝ }
+fn remove(t: Tables, own: Partition, s: usize, r: usize, x: Message) -> Change
+    requires { ⌜ Answers t s r × OneExactly t s r x × (own ≡ partitionAt t r) ⌝ }
     ensures { λ c. ⌜ applied t c ≡ stored t (accept (x .number) None (carryOut (takenFrom t s r) s r x DropsIt)) ⌝ }
     ensures { λ c. ⌜ Applies t c ⌝ }
 {
-    let mut own = t.partitions[r];
     let backpointers = own.backpointers;
     let parent = number_of(s);
     let fewer = without_exactly(backpointers, parent, x);
-    own.backpointers = fewer;
+    let mut next = own;
+    next.backpointers = fewer;
     let yes = Body::Yes;
-    take_and_say(own, s, r, x, yes)
+    take_and_say(next, s, r, x, yes)
 }
 
-fn carry_out(t: Tables, s: usize, r: usize, x: Message, v: Verdict) -> Change
-    requires { ⌜ Answers t s r × OneExactly t s r x × (v ≡ verdict (partition (view t) r) s x) ⌝ }
+fn carry_out(t: Tables, own: Partition, s: usize, r: usize, x: Message, v: Verdict) -> Change
+    requires { ⌜ Answers t s r × OneExactly t s r x × (v ≡ verdict (partition (view t) r) s x) × (own ≡ partitionAt t r) ⌝ }
     ensures { λ c. ⌜ applied t c ≡ stored t (accept (x .number) None (carryOut (takenFrom t s r) s r x v)) ⌝ }
     ensures { λ c. ⌜ Applies t c ⌝ }
 {
     match v {
-        Verdict::SaysOnly(body) => say(t, s, r, x, body),
-        Verdict::AddsIt => add(t, s, r, x),
-        Verdict::DropsIt => remove(t, s, r, x),
+        Verdict::SaysOnly(body) => say(t, own, s, r, x, body),
+        Verdict::AddsIt => add(t, own, s, r, x),
+        Verdict::DropsIt => remove(t, own, s, r, x),
     }
 }
 
-fn answer(t: Tables, s: usize, r: usize, x: Message) -> Change
-    requires { ⌜ Answers t s r × OneExactly t s r x ⌝ }
+fn answer(t: Tables, own: Partition, s: usize, r: usize, x: Message) -> Change
+    requires { ⌜ Answers t s r × OneExactly t s r x × (own ≡ partitionAt t r) ⌝ }
     ensures { λ c. ⌜ applied t c ≡ stored t (accept (x .number) None (carryOut (takenFrom t s r) s r x (verdict (partition (view t) r) s x))) ⌝ }
     ensures { λ c. ⌜ Applies t c ⌝ }
 {
-    let own = t.partitions[r];
     let backpointers = own.backpointers;
     let parent = number_of(s);
     let v = verdict::verdict(backpointers, parent, x);
-    carry_out(t, s, r, x, v)
+    carry_out(t, own, s, r, x, v)
 }
 
 // ---- an answer, at the record's partition r
@@ -203,70 +203,69 @@ fn with_stage(l: Records, number: u32, stage: Stage) -> Records
     }
 }
 
-fn land(t: Tables, s: usize, r: usize, x: Message) -> Change
-    requires { ⌜ Lands t s r x ⌝ }
+fn land(t: Tables, own: Partition, s: usize, r: usize, x: Message) -> Change
+    requires { ⌜ Lands t s r x × (own ≡ partitionAt t r) ⌝ }
     ensures { λ c. ⌜ applied t c ≡ stored t (accept (x .number) None (land (takenFrom t s r) r x)) ⌝ }
     ensures { λ c. ⌜ Applies t c ⌝ }
 {
-    let mut own = t.partitions[r];
     let records = own.records;
     let kind = x.kind;
     let body = x.body;
     let stage = stage_after(kind, body);
     let landed = with_stage(records, x.number, stage);
-    own.records = landed;
-    exchanges(r, s, own, x.number, true, false, x)
+    let mut next = own;
+    next.records = landed;
+    exchanges(r, s, next, x.number, true, false, x)
 }
 
 // ---- the event: r receives the oldest message from s
 
 // The message is x.
-fn receive(t: Tables, s: usize, r: usize, x: Message) -> Change
-    requires { ⌜ Received t s r x ⌝ }
+fn receive(t: Tables, own: Partition, s: usize, r: usize, x: Message) -> Change
+    requires { ⌜ Received t s r x × (own ≡ partitionAt t r) ⌝ }
     ensures { λ c. ⌜ applied t c ≡ stored t (accept (x .number) None (receive (x .body) (takenFrom t s r) s r x)) ⌝ }
     ensures { λ c. ⌜ Applies t c ⌝ }
 {
     let body = x.body;
     match body {
-        Body::Request => answer(t, s, r, x),
-        Body::Yes => land(t, s, r, x),
-        Body::No => land(t, s, r, x),
-        Body::NoBecause(_) => land(t, s, r, x),
+        Body::Request => answer(t, own, s, r, x),
+        Body::Yes => land(t, own, s, r, x),
+        Body::No => land(t, own, s, r, x),
+        Body::NoBecause(_) => land(t, own, s, r, x),
     }
 }
 
-fn deliver_oldest(t: Tables, s: usize, r: usize) -> Change
-    requires { ⌜ Ready t × (s < t .count) × (s < maxPartitions) × (r < t .count) × (r < maxPartitions) ⌝ }
+fn deliver_oldest(t: Tables, own: Partition, waiting: Queue, s: usize, r: usize) -> Change
+    requires { ⌜ Ready t × (s < t .count) × (s < maxPartitions) × (r < t .count) × (r < maxPartitions) × (waiting ≡ queueAt t (s * maxPartitions + r)) × (own ≡ partitionAt t r) ⌝ }
     ensures { λ c. ⌜ applied t c ≡ stored t (deliverOldest (view t) s r (queue (view t) s r)) ⌝ }
     ensures { λ c. ⌜ Applies t c ⌝ }
 {
-    let waiting = queues::queue(t, s, r);
     if 0 < waiting.count {} else {
-        let own = t.partitions[r];
         return keeps(r, own, Refusal::QueueEmpty);
     }
     let x = waiting.items[0];
-    receive(t, s, r, x)
+    receive(t, own, s, r, x)
 }
 
-// Sender and receiver are there.
-pub fn deliver_change(t: Tables, s: usize, r: usize) -> Change
-    requires { ⌜ Ready t × (s < t .count) × (s < maxPartitions) × (r < t .count) × (r < maxPartitions) ⌝ }
+// Sender and receiver are there; own is the receiver, and waiting the queue to it from the sender.
+pub fn deliver_change(t: Tables, own: Partition, waiting: Queue, s: usize, r: usize) -> Change
+    requires { ⌜ Ready t × (s < t .count) × (s < maxPartitions) × (r < t .count) × (r < maxPartitions) × (waiting ≡ queueAt t (s * maxPartitions + r)) × (own ≡ partitionAt t r) ⌝ }
     ensures { λ c. ⌜ applied t c ≡ stored t (deliver (view t) s r) ⌝ }
     ensures { λ c. ⌜ Applies t c ⌝ }
 {
-    let own = t.partitions[r];
     if own.up {} else {
         return keeps(r, own, Refusal::Down);
     }
-    deliver_oldest(t, s, r)
+    deliver_oldest(t, own, waiting, s, r)
 }
 
 pub fn deliver_there(t: Tables, s: usize, r: usize) -> Answered
     requires { ⌜ Ready t × (s < t .count) × (s < maxPartitions) × (r < t .count) × (r < maxPartitions) ⌝ }
     ensures { λ a. ⌜ a ≡ stored t (deliver (view t) s r) ⌝ }
 {
-    let change = deliver_change(t, s, r);
+    let own = t.partitions[r];
+    let waiting = queues::queue(t, s, r);
+    let change = deliver_change(t, own, waiting, s, r);
     changes::apply(t, change)
 }
 

@@ -4,12 +4,6 @@ use borrow.Author.Needs.{needs}
 use Rattle.deliveries.proofs.add.Statement.{statement}
 use Rattle.deliveries.proofs.add.Tie as tie
 
-mul-own : tie.Need-mul-own
-mul-own c = search (backpointers-here, sized, needs)
-
-element-copy-out-own : tie.Need-element-copy-out-own
-element-copy-out-own c = search (backpointers-here, sized, needs)
-
 number-of-requires : tie.Need-number-of-requires
 number-of-requires c κs = search (backpointers-here, sized, needs)
 
@@ -29,8 +23,6 @@ pub add-spec : {M : Type 1} → statement M
 add-spec =
     tie.close
     (tie.spec
-    mul-own
-    element-copy-out-own
     number-of-requires
     backpointer-of-requires
     add-backpointer-requires

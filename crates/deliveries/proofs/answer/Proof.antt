@@ -4,12 +4,6 @@ use borrow.Author.Needs.{needs}
 use Rattle.deliveries.proofs.answer.Statement.{statement}
 use Rattle.deliveries.proofs.answer.Tie as tie
 
-mul-own : tie.Need-mul-own
-mul-own c = search (answers, sized, needs)
-
-element-copy-out-own : tie.Need-element-copy-out-own
-element-copy-out-own c = search (answers, sized, needs)
-
 number-of-requires : tie.Need-number-of-requires
 number-of-requires c κs = search (answers, sized, needs)
 
@@ -26,8 +20,6 @@ pub answer-spec : {M : Type 1} → statement M
 answer-spec =
     tie.close
     (tie.spec
-    mul-own
-    element-copy-out-own
     number-of-requires
     verdict-requires
     carry-out-requires

@@ -5,12 +5,6 @@ use borrow.Author.Needs.{needs}
 use Rattle.deliveries.proofs.deliver_change.Statement.{statement}
 use Rattle.deliveries.proofs.deliver_change.Tie as tie
 
-mul-own : tie.Need-mul-own
-mul-own c = search (deliveries, refused-applies, sized, needs)
-
-element-copy-out-own : tie.Need-element-copy-out-own
-element-copy-out-own c = search (deliveries, refused-applies, sized, needs)
-
 keeps-requires : tie.Need-keeps-requires
 keeps-requires c κs = search (deliveries, refused-applies, sized, needs)
 
@@ -27,8 +21,6 @@ pub deliver-change-spec : {M : Type 1} → statement M
 deliver-change-spec =
     tie.close
     (tie.spec
-    mul-own
-    element-copy-out-own
     keeps-requires
     returns
     deliver-oldest-requires

@@ -5,15 +5,6 @@ use borrow.Author.Needs.{needs}
 use Rattle.deliveries.proofs.deliver_oldest.Statement.{statement}
 use Rattle.deliveries.proofs.deliver_oldest.Tie as tie
 
-queue-requires : tie.Need-queue-requires
-queue-requires c κs = search (oldests, refused-applies, sized, needs)
-
-mul-own : tie.Need-mul-own
-mul-own c = search (oldests, refused-applies, sized, needs)
-
-element-copy-out-own : tie.Need-element-copy-out-own
-element-copy-out-own c = search (oldests, refused-applies, sized, needs)
-
 keeps-requires : tie.Need-keeps-requires
 keeps-requires c κs = search (oldests, refused-applies, sized, needs)
 
@@ -33,9 +24,6 @@ pub deliver-oldest-spec : {M : Type 1} → statement M
 deliver-oldest-spec =
     tie.close
     (tie.spec
-    queue-requires
-    mul-own
-    element-copy-out-own
     keeps-requires
     returns
     element-copy-out-x

@@ -4,12 +4,6 @@ use borrow.Author.Needs.{needs}
 use Rattle.deliveries.proofs.land.Statement.{statement}
 use Rattle.deliveries.proofs.land.Tie as tie
 
-mul-own : tie.Need-mul-own
-mul-own c = search (landings, sized, needs)
-
-element-copy-out-own : tie.Need-element-copy-out-own
-element-copy-out-own c = search (landings, sized, needs)
-
 stage-after-requires : tie.Need-stage-after-requires
 stage-after-requires c κs = search (landings, sized, needs)
 
@@ -26,8 +20,6 @@ pub land-spec : {M : Type 1} → statement M
 land-spec =
     tie.close
     (tie.spec
-    mul-own
-    element-copy-out-own
     stage-after-requires
     with-stage-requires
     exchanges-requires

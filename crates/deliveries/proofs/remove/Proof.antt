@@ -4,12 +4,6 @@ use borrow.Author.Needs.{needs}
 use Rattle.deliveries.proofs.remove.Statement.{statement}
 use Rattle.deliveries.proofs.remove.Tie as tie
 
-mul-own : tie.Need-mul-own
-mul-own c = search (backpointers-here, sized, needs)
-
-element-copy-out-own : tie.Need-element-copy-out-own
-element-copy-out-own c = search (backpointers-here, sized, needs)
-
 number-of-requires : tie.Need-number-of-requires
 number-of-requires c κs = search (backpointers-here, sized, needs)
 
@@ -26,8 +20,6 @@ pub remove-spec : {M : Type 1} → statement M
 remove-spec =
     tie.close
     (tie.spec
-    mul-own
-    element-copy-out-own
     number-of-requires
     without-exactly-requires
     take-and-say-requires

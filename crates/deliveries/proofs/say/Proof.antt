@@ -4,12 +4,6 @@ use borrow.Author.Needs.{needs}
 use Rattle.deliveries.proofs.say.Statement.{statement}
 use Rattle.deliveries.proofs.say.Tie as tie
 
-mul-own : tie.Need-mul-own
-mul-own c = search (sayings, sized, needs)
-
-element-copy-out-own : tie.Need-element-copy-out-own
-element-copy-out-own c = search (sayings, sized, needs)
-
 take-and-say-requires : tie.Need-take-and-say-requires
 take-and-say-requires c κs = search (sayings, sized, needs)
 
@@ -17,4 +11,4 @@ returns : tie.Need-returns
 returns c = (search (sayings, sized, needs), search (sayings, sized, needs))
 
 pub say-spec : {M : Type 1} → statement M
-say-spec = tie.close (tie.spec mul-own element-copy-out-own take-and-say-requires returns)
+say-spec = tie.close (tie.spec take-and-say-requires returns)
