@@ -5,7 +5,7 @@ ghost use Prim.Native.Nat.{_<_};
 ghost use lib.Dec.{eqb, leb};
 ghost use Rattle.protocol.specs.Bounds.{maxPartitions};
 ghost use Rattle.protocol.specs.Faults.{crash, cut, recover};
-ghost use Rattle.tables.specs.View.{view};
+ghost use Rattle.tables.specs.View.{partitionAt, view};
 ghost use Rattle.answers.specs.Called.{Ready, stored};
 ghost use Rattle.answers.specs.Change.{Applies, applied};
 use crate::losses::Loss;
@@ -20,6 +20,7 @@ use answers::refused;
 use protocol::Refusal;
 use protocol::Reply;
 use tables::MAX_PARTITIONS;
+use tables::Partition;
 use tables::Tables;
 use tables::stores;
 
@@ -89,16 +90,16 @@ pub fn crash_in_order(t: Tables, p: u32) -> Answered
 
 // ---- recover
 
-// What the recovery does: it is for who stores it.
-pub fn recover_change(t: Tables, p: usize) -> Change
-    requires { ⌜ Ready t × (p < t .count) × (p < maxPartitions) ⌝ }
+// What the recovery does: it is for who stores it. It is handed own, partition p: to read it here would copy all of t.
+pub fn recover_change(t: Tables, own: Partition, p: usize) -> Change
+    requires { ⌜ Ready t × (p < t .count) × (p < maxPartitions) × (own ≡ partitionAt t p) ⌝ }
     ensures { λ c. ⌜ applied t c ≡ stored t (recover (view t) p) ⌝ }
     ensures { λ c. ⌜ Applies t c ⌝ }
 {
-    let mut x = t.partitions[p];
-    if x.up {
-        return keeps(p, x, Refusal::IsUp);
+    if own.up {
+        return keeps(p, own, Refusal::IsUp);
     }
+    let mut x = own;
     x.up = true;
     changes(p, x, 0, Reply::None)
 }
@@ -107,7 +108,8 @@ fn recover_there(t: Tables, p: usize) -> Answered
     requires { ⌜ Ready t × (p < t .count) × (p < maxPartitions) ⌝ }
     ensures { λ x. ⌜ x ≡ stored t (recover (view t) p) ⌝ }
 {
-    let change = recover_change(t, p);
+    let own = t.partitions[p];
+    let change = recover_change(t, own, p);
     apply(t, change)
 }
 

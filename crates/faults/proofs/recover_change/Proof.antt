@@ -6,12 +6,6 @@ use borrow.Author.Needs.{needs}
 use Rattle.faults.proofs.recover_change.Statement.{statement}
 use Rattle.faults.proofs.recover_change.Tie as tie
 
-mul-x : tie.Need-mul-x
-mul-x c = search (recovers, refused-applies, changed-applies, ready-stored, sized, needs)
-
-element-copy-out-x : tie.Need-element-copy-out-x
-element-copy-out-x c = search (recovers, refused-applies, changed-applies, ready-stored, sized, needs)
-
 keeps-requires : tie.Need-keeps-requires
 keeps-requires c κs = search (recovers, refused-applies, changed-applies, ready-stored, sized, needs)
 
@@ -25,5 +19,4 @@ returns-2 : tie.Need-returns-2
 returns-2 c = search (recovers, refused-applies, changed-applies, ready-stored, sized, needs)
 
 pub recover-change-spec : {M : Type 1} → statement M
-recover-change-spec =
-    tie.close (tie.spec mul-x element-copy-out-x keeps-requires returns changes-requires returns-2)
+recover-change-spec = tie.close (tie.spec keeps-requires returns changes-requires returns-2)
