@@ -2,7 +2,7 @@
 use mathlib.Core.Bool.{Bool, false, true}
 use mathlib.Core.List.{List, List·Memᴰ, [], _++_, _∷_}
 use mathlib.Core.Path.{_∙_, _≡_, ap, refl, subst, sym}
-use Prim.Native.Nat.{_*_, _+_, _<_, _≤_, ℕ}
+use Prim.Native.Nat.{_*_, _+_, _<_, _≤_, suc, zero, ℕ}
 use native.Mathlib.Omega.{arith}
 use lib.ListN.{getD, length, set}
 use lib.Seq.{getD-take, length-take-le}
@@ -244,6 +244,15 @@ pub ruleset steps = (step-records, step-entries, step-place, step-most, step-ent
 
 -- ---- the record's request is sent to q
 
+-- which partition is up, of the four that were read
+pub up-of : (t : Tables) (q : ℕ) → q < maxPartitions
+    → getD (partitionAt t 0 .up ∷ partitionAt t 1 .up ∷ partitionAt t 2 .up ∷ partitionAt t 3 .up ∷ []) q false ≡ partitionAt t q .up
+up-of t zero l = refl
+up-of t (suc zero) l = refl
+up-of t (suc (suc zero)) l = refl
+up-of t (suc (suc (suc zero))) l = refl
+up-of t (suc (suc (suc (suc k)))) l = absurd (omega arith)
+
 module _ (t : Tables) (z : Sized t) (r : Ready t) (p i : ℕ) (c : Record) (o : OpenAt t p i c) where
   sole-record : keep (recordBears (c .number)) (partition (view t) p .records) ≡ c ∷ []
   sole-record = found t z r p i c o (partitionAt t p) refl
@@ -275,15 +284,16 @@ module _ (t : Tables) (z : Sized t) (r : Ready t) (p i : ℕ) (c : Record) (o : 
         let h : isSent (c .stage) ≡ false = sending-rests (c .kind) (c .stage) _ _ n in
         record { owner = e; there = there; four = send-below; room = rw e (request-room (view t) (r .order) p (c .number) c [] sole-record h) }
 
-  module _ (q : ℕ) (s : SendsTo t p c q) (y : Partition) (v : y ≡ partitionAt t q) where
-    up-there : partition (view t) (c .partition) .up ≡ y .up
-    up-there = ap (λ (j : ℕ). partition (view t) j .up) (sym (s .owner)) ∙ read-up t q z r (s .there) y v
+  -- u is whether q is up
+  module _ (q : ℕ) (s : SendsTo t p c q) (u : Bool) (v : u ≡ partitionAt t q .up) where
+    up-there : partition (view t) (c .partition) .up ≡ u
+    up-there = ap (λ (j : ℕ). partition (view t) j .up) (sym (s .owner)) ∙ read-up t q z r (s .there) (partitionAt t q) refl ∙ sym v
 
-    pub send-down : (a : Answered) → y .up ≡ false → a ≡ refusedWith t TowardsDown → a ≡ stored t (perform (view t) p c Sends)
+    pub send-down : (a : Answered) → u ≡ false → a ≡ refusedWith t TowardsDown → a ≡ stored t (perform (view t) p c Sends)
     unfolding perform
     send-down a f h = h ∙ refuses t _ TowardsDown _ _ refl (up-there ∙ f)
 
-    pub send-goes : (a : Answered) → y .up ≡ true
+    pub send-goes : (a : Answered) → u ≡ true
         → a ≡ stored t (accept (c .number) None (send (setStage (view t) p (c .number) Sent) p (c .partition) (messageOf Request c))) → a ≡ stored t (perform (view t) p c Sends)
     unfolding perform
     send-goes a f h = h ∙ passes t _ TowardsDown _ _ (up-there ∙ f)

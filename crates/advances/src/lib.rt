@@ -35,6 +35,7 @@ use protocol::Record;
 use protocol::Refusal;
 use protocol::Reply;
 use protocol::Stage;
+use tables::Partition;
 use tables::Tables;
 use tables::reads;
 use tables::writes;
@@ -106,59 +107,60 @@ fn entry_of(r: Record) -> Entry
     }
 }
 
-// ---- the steps of partition p's record r, which stands at place i
+// ---- the steps of partition p's record r, which stands at place i. `own` is partition p as it is in the tables t. No step reads t
+// at a place that only the run knows, for which all of t would be copied.
 
-fn close(t: Tables, p: usize, i: usize, r: Record, reply: Reply) -> Change
-    requires { ⌜ Ready t × OpenAt t p i r ⌝ }
+fn close(t: Tables, own: Partition, p: usize, i: usize, r: Record, reply: Reply) -> Change
+    requires { ⌜ Ready t × OpenAt t p i r × (own ≡ partitionAt t p) ⌝ }
     ensures { λ c. ⌜ applied t c ≡ stored t (perform (view t) p r (Closes reply)) ⌝ }
     ensures { λ c. ⌜ Applies t c ⌝ }
 {
-    let mut x = t.partitions[p];
-    let records = x.records;
+    let records = own.records;
     let fewer = writes::remove_record(records, i);
+    let mut x = own;
     x.records = fewer;
     changes(p, x, r.number, reply)
 }
 
-fn turn(t: Tables, p: usize, i: usize, r: Record) -> Change
-    requires { ⌜ Ready t × OpenAt t p i r ⌝ }
+fn turn(t: Tables, own: Partition, p: usize, i: usize, r: Record) -> Change
+    requires { ⌜ Ready t × OpenAt t p i r × (own ≡ partitionAt t p) ⌝ }
     ensures { λ c. ⌜ applied t c ≡ stored t (perform (view t) p r Turns) ⌝ }
     ensures { λ c. ⌜ Applies t c ⌝ }
 {
-    let mut x = t.partitions[p];
-    let records = x.records;
+    let records = own.records;
     let unlinking = turned(r);
     let changed = writes::set_record(records, i, unlinking);
+    let mut x = own;
     x.records = changed;
     changes(p, x, r.number, Reply::NameTaken)
 }
 
-fn enter(t: Tables, p: usize, i: usize, r: Record) -> Change
-    requires { ⌜ Ready t × OpenAt t p i r × (Enters ≡ next (partition (view t) p) r) ⌝ }
+fn enter(t: Tables, own: Partition, p: usize, i: usize, r: Record) -> Change
+    requires { ⌜ Ready t × OpenAt t p i r × (Enters ≡ next (partition (view t) p) r) × (own ≡ partitionAt t p) ⌝ }
     ensures { λ c. ⌜ applied t c ≡ stored t (perform (view t) p r Enters) ⌝ }
     ensures { λ c. ⌜ Applies t c ⌝ }
 {
-    let mut x = t.partitions[p];
-    let entries = x.entries;
+    let entries = own.entries;
     let item = entry_of(r);
     let more = writes::add_entry(entries, item);
+    let mut x = own;
     x.entries = more;
     changes(p, x, r.number, Reply::Done)
 }
 
-fn take_out(t: Tables, p: usize, i: usize, r: Record) -> Change
-    requires { ⌜ Ready t × OpenAt t p i r × (TakesOut ≡ next (partition (view t) p) r) ⌝ }
+fn take_out(t: Tables, own: Partition, p: usize, i: usize, r: Record) -> Change
+    requires { ⌜ Ready t × OpenAt t p i r × (TakesOut ≡ next (partition (view t) p) r) × (own ≡ partitionAt t p) ⌝ }
     ensures { λ c. ⌜ applied t c ≡ stored t (perform (view t) p r TakesOut) ⌝ }
     ensures { λ c. ⌜ Applies t c ⌝ }
 {
-    let mut x = t.partitions[p];
-    let entries = x.entries;
+    let entries = own.entries;
     let found = reads::find_entry(entries, r.number);
     match found {
         // not met: the step is to take out an entry that stands
-        Found::Nothing => keeps(p, x, Refusal::OutOfOrder),
+        Found::Nothing => keeps(p, own, Refusal::OutOfOrder),
         Found::At(at) => {
             let fewer = writes::remove_entry(entries, at);
+            let mut x = own;
             x.entries = fewer;
             changes(p, x, r.number, Reply::Done)
         }
@@ -166,115 +168,124 @@ fn take_out(t: Tables, p: usize, i: usize, r: Record) -> Change
 }
 
 // The object's partition q is up.
-fn send_request(t: Tables, p: usize, i: usize, r: Record, q: usize) -> Change
-    requires { ⌜ Ready t × OpenAt t p i r × SendsTo t p r q ⌝ }
+fn send_request(t: Tables, own: Partition, p: usize, i: usize, r: Record, q: usize) -> Change
+    requires { ⌜ Ready t × OpenAt t p i r × SendsTo t p r q × (own ≡ partitionAt t p) ⌝ }
     ensures { λ c. ⌜ applied t c ≡ stored t (accept (r .number) None (send (setStage (view t) p (r .number) Sent) p (r .partition) (messageOf Request r))) ⌝ }
     ensures { λ c. ⌜ Applies t c ⌝ }
 {
-    let mut x = t.partitions[p];
-    let records = x.records;
+    let records = own.records;
     let stage = Stage::Sent;
     let item = in_stage(stage, r);
     let changed = writes::set_record(records, i, item);
+    let mut x = own;
     x.records = changed;
     let message = request_of(r);
     exchanges(p, q, x, r.number, false, true, message)
 }
 
-fn send_if_up(t: Tables, p: usize, i: usize, r: Record, q: usize) -> Change
-    requires { ⌜ Ready t × OpenAt t p i r × SendsTo t p r q ⌝ }
+// Whether partition q is up. All four are read, each at a place that is constant, and q chooses among the four bools: to read t
+// at q would copy all of it.
+fn is_up(t: Tables, q: usize) -> bool
+    requires { ⌜ q < maxPartitions ⌝ }
+    ensures { λ r. ⌜ r ≡ partitionAt t q .up ⌝ }
+{
+    let a = t.partitions[0];
+    let b = t.partitions[1];
+    let c = t.partitions[2];
+    let d = t.partitions[3];
+    let ups = [a.up, b.up, c.up, d.up];
+    ups[q]
+}
+
+fn send_if_up(t: Tables, own: Partition, p: usize, i: usize, r: Record, q: usize) -> Change
+    requires { ⌜ Ready t × OpenAt t p i r × SendsTo t p r q × (own ≡ partitionAt t p) ⌝ }
     ensures { λ c. ⌜ applied t c ≡ stored t (perform (view t) p r Sends) ⌝ }
     ensures { λ c. ⌜ Applies t c ⌝ }
 {
-    let y = t.partitions[q];
-    if y.up {} else {
-        let x = t.partitions[p];
-        return keeps(p, x, Refusal::TowardsDown);
+    if is_up(t, q) {} else {
+        return keeps(p, own, Refusal::TowardsDown);
     }
-    send_request(t, p, i, r, q)
+    send_request(t, own, p, i, r, q)
 }
 
-fn send(t: Tables, p: usize, i: usize, r: Record) -> Change
-    requires { ⌜ Ready t × OpenAt t p i r × (Sends ≡ next (partition (view t) p) r) ⌝ }
+fn send(t: Tables, own: Partition, p: usize, i: usize, r: Record) -> Change
+    requires { ⌜ Ready t × OpenAt t p i r × (Sends ≡ next (partition (view t) p) r) × (own ≡ partitionAt t p) ⌝ }
     ensures { λ c. ⌜ applied t c ≡ stored t (perform (view t) p r Sends) ⌝ }
     ensures { λ c. ⌜ Applies t c ⌝ }
 {
     let q = r.partition as usize;
-    send_if_up(t, p, i, r, q)
+    send_if_up(t, own, p, i, r, q)
 }
 
 // The record stays as it is.
-fn stay(t: Tables, p: usize, i: usize, r: Record, why: Refusal) -> Change
-    requires { ⌜ Ready t × OpenAt t p i r ⌝ }
+fn stay(t: Tables, own: Partition, p: usize, i: usize, r: Record, why: Refusal) -> Change
+    requires { ⌜ Ready t × OpenAt t p i r × (own ≡ partitionAt t p) ⌝ }
     ensures { λ c. ⌜ applied t c ≡ stored t (perform (view t) p r (Stays why)) ⌝ }
     ensures { λ c. ⌜ Applies t c ⌝ }
 {
-    let x = t.partitions[p];
-    keeps(p, x, why)
+    keeps(p, own, why)
 }
 
-fn perform(t: Tables, p: usize, i: usize, r: Record, step: Next) -> Change
-    requires { ⌜ Ready t × OpenAt t p i r × (step ≡ next (partition (view t) p) r) ⌝ }
+fn perform(t: Tables, own: Partition, p: usize, i: usize, r: Record, step: Next) -> Change
+    requires { ⌜ Ready t × OpenAt t p i r × (step ≡ next (partition (view t) p) r) × (own ≡ partitionAt t p) ⌝ }
     ensures { λ c. ⌜ applied t c ≡ stored t (perform (view t) p r step) ⌝ }
     ensures { λ c. ⌜ Applies t c ⌝ }
 {
     match step {
-        Next::Closes(reply) => close(t, p, i, r, reply),
-        Next::Sends => send(t, p, i, r),
-        Next::Enters => enter(t, p, i, r),
-        Next::Turns => turn(t, p, i, r),
-        Next::TakesOut => take_out(t, p, i, r),
-        Next::Stays(why) => stay(t, p, i, r, why),
+        Next::Closes(reply) => close(t, own, p, i, r, reply),
+        Next::Sends => send(t, own, p, i, r),
+        Next::Enters => enter(t, own, p, i, r),
+        Next::Turns => turn(t, own, p, i, r),
+        Next::TakesOut => take_out(t, own, p, i, r),
+        Next::Stays(why) => stay(t, own, p, i, r, why),
     }
 }
 
 // ---- the event: partition p's record under this number
 
-fn advance_record(t: Tables, p: usize, i: usize) -> Change
-    requires { ⌜ Ready t × (p < t .count) × (p < maxPartitions) × (i < partitionAt t p .records .count) × (i < maxRecords) ⌝ }
+fn advance_record(t: Tables, own: Partition, p: usize, i: usize) -> Change
+    requires { ⌜ Ready t × (p < t .count) × (p < maxPartitions) × (i < partitionAt t p .records .count) × (i < maxRecords) × (own ≡ partitionAt t p) ⌝ }
     ensures { λ c. ⌜ applied t c ≡ stored t (advanceFound (view t) p (getD (partitionAt t p .records .items) i noRecord ∷ [])) ⌝ }
     ensures { λ c. ⌜ Applies t c ⌝ }
 {
-    let x = t.partitions[p];
-    let records = x.records;
+    let records = own.records;
     let r = records.items[i];
-    let entries = x.entries;
+    let entries = own.entries;
     let step = next::next_step(entries, r);
-    perform(t, p, i, r, step)
+    perform(t, own, p, i, r, step)
 }
 
-fn advance_up(t: Tables, p: usize, number: u32) -> Change
-    requires { ⌜ Ready t × (p < t .count) × (p < maxPartitions) ⌝ }
+fn advance_up(t: Tables, own: Partition, p: usize, number: u32) -> Change
+    requires { ⌜ Ready t × (p < t .count) × (p < maxPartitions) × (own ≡ partitionAt t p) ⌝ }
     ensures { λ c. ⌜ applied t c ≡ stored t (advanceFound (view t) p (keep (recordBears number) (partition (view t) p .records))) ⌝ }
     ensures { λ c. ⌜ Applies t c ⌝ }
 {
-    let x = t.partitions[p];
-    let records = x.records;
+    let records = own.records;
     let found = reads::find_record(records, number);
     match found {
-        Found::Nothing => keeps(p, x, Refusal::NoRecord),
-        Found::At(i) => advance_record(t, p, i),
+        Found::Nothing => keeps(p, own, Refusal::NoRecord),
+        Found::At(i) => advance_record(t, own, p, i),
     }
 }
 
 // What the advance does: it is for who stores it.
-pub fn advance_change(t: Tables, p: usize, number: u32) -> Change
-    requires { ⌜ Ready t × (p < t .count) × (p < maxPartitions) ⌝ }
+pub fn advance_change(t: Tables, own: Partition, p: usize, number: u32) -> Change
+    requires { ⌜ Ready t × (p < t .count) × (p < maxPartitions) × (own ≡ partitionAt t p) ⌝ }
     ensures { λ c. ⌜ applied t c ≡ stored t (advance (view t) p number) ⌝ }
     ensures { λ c. ⌜ Applies t c ⌝ }
 {
-    let x = t.partitions[p];
-    if x.up {} else {
-        return keeps(p, x, Refusal::Down);
+    if own.up {} else {
+        return keeps(p, own, Refusal::Down);
     }
-    advance_up(t, p, number)
+    advance_up(t, own, p, number)
 }
 
 pub fn advance_there(t: Tables, p: usize, number: u32) -> Answered
     requires { ⌜ Ready t × (p < t .count) × (p < maxPartitions) ⌝ }
     ensures { λ a. ⌜ a ≡ stored t (advance (view t) p number) ⌝ }
 {
-    let change = advance_change(t, p, number);
+    let own = t.partitions[p];
+    let change = advance_change(t, own, p, number);
     apply(t, change)
 }
 

@@ -6,12 +6,6 @@ use borrow.Author.Needs.{needs}
 use Rattle.advances.proofs.advance_change.Statement.{statement}
 use Rattle.advances.proofs.advance_change.Tie as tie
 
-mul-x : tie.Need-mul-x
-mul-x c = search (advances, refused-applies, ready-stored, sized, needs)
-
-element-copy-out-x : tie.Need-element-copy-out-x
-element-copy-out-x c = search (advances, refused-applies, ready-stored, sized, needs)
-
 keeps-requires : tie.Need-keeps-requires
 keeps-requires c κs = search (advances, refused-applies, ready-stored, sized, needs)
 
@@ -27,4 +21,4 @@ returns-2 c = search (advances, refused-applies, ready-stored, sized, needs)
 pub advance-change-spec : {M : Type 1} → statement M
 advance-change-spec =
     tie.close
-    (tie.spec mul-x element-copy-out-x keeps-requires returns advance-up-requires returns-2)
+    (tie.spec keeps-requires returns advance-up-requires returns-2)

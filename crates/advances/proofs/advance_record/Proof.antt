@@ -5,12 +5,6 @@ use borrow.Author.Needs.{needs}
 use Rattle.advances.proofs.advance_record.Statement.{statement}
 use Rattle.advances.proofs.advance_record.Tie as tie
 
-mul-x : tie.Need-mul-x
-mul-x c = search (records-advanced, read-entries, sized, needs)
-
-element-copy-out-x : tie.Need-element-copy-out-x
-element-copy-out-x c = search (records-advanced, read-entries, sized, needs)
-
 mul-r : tie.Need-mul-r
 mul-r c = search (records-advanced, read-entries, sized, needs)
 
@@ -25,6 +19,7 @@ perform-requires c κs = (
   search (records-advanced, read-entries, sized, needs),
   search (records-advanced, read-entries, sized, needs),
   search (records-advanced, read-entries, sized, needs),
+  search (records-advanced, read-entries, sized, needs),
 )
 
 returns : tie.Need-returns
@@ -34,8 +29,6 @@ pub advance-record-spec : {M : Type 1} → statement M
 advance-record-spec =
     tie.close
     (tie.spec
-    mul-x
-    element-copy-out-x
     mul-r
     element-copy-out-r
     next-step-requires

@@ -6,12 +6,6 @@ use borrow.Author.Needs.{needs}
 use Rattle.advances.proofs.advance_up.Statement.{statement}
 use Rattle.advances.proofs.advance_up.Tie as tie
 
-mul-x : tie.Need-mul-x
-mul-x c = search (records-sought, read-records, refused-applies, ready-stored, sized, needs)
-
-element-copy-out-x : tie.Need-element-copy-out-x
-element-copy-out-x c = search (records-sought, read-records, refused-applies, ready-stored, sized, needs)
-
 find-record-requires : tie.Need-find-record-requires
 find-record-requires c κs = search (records-sought, read-records, refused-applies, ready-stored, sized, needs)
 
@@ -37,8 +31,6 @@ pub advance-up-spec : {M : Type 1} → statement M
 advance-up-spec =
     tie.close
     (tie.spec
-    mul-x
-    element-copy-out-x
     find-record-requires
     enum-told
     keeps-requires

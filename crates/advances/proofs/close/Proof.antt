@@ -8,12 +8,6 @@ use borrow.Author.Needs.{needs}
 use Rattle.advances.proofs.close.Statement.{statement}
 use Rattle.advances.proofs.close.Tie as tie
 
-mul-x : tie.Need-mul-x
-mul-x c = search (steps, refused-applies, changed-applies, ready-stored, packed-records, packed-entries, found-below, found-in, found-fits, sized, needs)
-
-element-copy-out-x : tie.Need-element-copy-out-x
-element-copy-out-x c = search (steps, refused-applies, changed-applies, ready-stored, packed-records, packed-entries, found-below, found-in, found-fits, sized, needs)
-
 remove-record-requires : tie.Need-remove-record-requires
 remove-record-requires c κs = search (steps, refused-applies, changed-applies, ready-stored, packed-records, packed-entries, found-below, found-in, found-fits, sized, needs)
 
@@ -25,4 +19,4 @@ returns c = search (steps, refused-applies, changed-applies, ready-stored, packe
 
 pub close-spec : {M : Type 1} → statement M
 close-spec =
-    tie.close (tie.spec mul-x element-copy-out-x remove-record-requires changes-requires returns)
+    tie.close (tie.spec remove-record-requires changes-requires returns)

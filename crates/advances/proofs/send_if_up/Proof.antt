@@ -6,17 +6,8 @@ use borrow.Author.Needs.{needs}
 use Rattle.advances.proofs.send_if_up.Statement.{statement}
 use Rattle.advances.proofs.send_if_up.Tie as tie
 
-mul-y : tie.Need-mul-y
-mul-y c = search (sent-if-up, refused-applies, ready-stored, sized, needs)
-
-element-copy-out-y : tie.Need-element-copy-out-y
-element-copy-out-y c = search (sent-if-up, refused-applies, ready-stored, sized, needs)
-
-mul-x : tie.Need-mul-x
-mul-x c = search (sent-if-up, refused-applies, ready-stored, sized, needs)
-
-element-copy-out-x : tie.Need-element-copy-out-x
-element-copy-out-x c = search (sent-if-up, refused-applies, ready-stored, sized, needs)
+is-up-requires : tie.Need-is-up-requires
+is-up-requires c κs = search (sent-if-up, refused-applies, ready-stored, sized, needs)
 
 keeps-requires : tie.Need-keeps-requires
 keeps-requires c κs = search (sent-if-up, refused-applies, ready-stored, sized, needs)
@@ -34,10 +25,7 @@ pub send-if-up-spec : {M : Type 1} → statement M
 send-if-up-spec =
     tie.close
     (tie.spec
-    mul-y
-    element-copy-out-y
-    mul-x
-    element-copy-out-x
+    is-up-requires
     keeps-requires
     returns
     send-request-requires

@@ -8,12 +8,6 @@ use borrow.Author.Needs.{needs}
 use Rattle.advances.proofs.send_request.Statement.{statement}
 use Rattle.advances.proofs.send_request.Tie as tie
 
-mul-x : tie.Need-mul-x
-mul-x c = search (steps, refused-applies, changed-applies, ready-stored, packed-records, packed-entries, found-below, found-in, found-fits, sized, needs)
-
-element-copy-out-x : tie.Need-element-copy-out-x
-element-copy-out-x c = search (steps, refused-applies, changed-applies, ready-stored, packed-records, packed-entries, found-below, found-in, found-fits, sized, needs)
-
 in-stage-requires : tie.Need-in-stage-requires
 in-stage-requires c κs = search (steps, refused-applies, changed-applies, ready-stored, packed-records, packed-entries, found-below, found-in, found-fits, sized, needs)
 
@@ -33,8 +27,6 @@ pub send-request-spec : {M : Type 1} → statement M
 send-request-spec =
     tie.close
     (tie.spec
-    mul-x
-    element-copy-out-x
     in-stage-requires
     set-record-requires
     request-of-requires

@@ -6,12 +6,6 @@ use borrow.Author.Needs.{needs}
 use Rattle.advances.proofs.stay.Statement.{statement}
 use Rattle.advances.proofs.stay.Tie as tie
 
-mul-x : tie.Need-mul-x
-mul-x c = search (stays, refused-applies, ready-stored, sized, needs)
-
-element-copy-out-x : tie.Need-element-copy-out-x
-element-copy-out-x c = search (stays, refused-applies, ready-stored, sized, needs)
-
 keeps-requires : tie.Need-keeps-requires
 keeps-requires c κs = search (stays, refused-applies, ready-stored, sized, needs)
 
@@ -19,4 +13,4 @@ returns : tie.Need-returns
 returns c = search (stays, refused-applies, ready-stored, sized, needs)
 
 pub stay-spec : {M : Type 1} → statement M
-stay-spec = tie.close (tie.spec mul-x element-copy-out-x keeps-requires returns)
+stay-spec = tie.close (tie.spec keeps-requires returns)

@@ -8,12 +8,6 @@ use borrow.Author.Needs.{needs}
 use Rattle.advances.proofs.take_out.Statement.{statement}
 use Rattle.advances.proofs.take_out.Tie as tie
 
-mul-x : tie.Need-mul-x
-mul-x c = search (steps, refused-applies, changed-applies, ready-stored, packed-records, packed-entries, found-below, found-in, found-fits, sized, needs)
-
-element-copy-out-x : tie.Need-element-copy-out-x
-element-copy-out-x c = search (steps, refused-applies, changed-applies, ready-stored, packed-records, packed-entries, found-below, found-in, found-fits, sized, needs)
-
 find-entry-requires : tie.Need-find-entry-requires
 find-entry-requires c κs = search (steps, refused-applies, changed-applies, ready-stored, packed-records, packed-entries, found-below, found-in, found-fits, sized, needs)
 
@@ -42,8 +36,6 @@ pub take-out-spec : {M : Type 1} → statement M
 take-out-spec =
     tie.close
     (tie.spec
-    mul-x
-    element-copy-out-x
     find-entry-requires
     enum-told
     keeps-requires
