@@ -1,4 +1,3 @@
 pub mod Counting
 pub mod Responding
 pub mod Sessions
-pub mod Doing

@@ -1,4 +1,3 @@
 pub mod Counts
 pub mod Session
-pub mod Deeds
 pub mod Claims

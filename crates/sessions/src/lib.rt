@@ -16,7 +16,6 @@ use settle::run;
 use tables::Tables;
 
 pub mod counts;
-pub mod deeds;
 
 // Between two lines. Before the first accepted `P` it is not open, and its tables are nobody's.
 pub struct Session {
@@ -67,7 +66,7 @@ fn not_read(s: Session) -> Response
     }
 }
 
-fn numbers_of(a: Answer) -> Numbers
+pub fn numbers_of(a: Answer) -> Numbers
     ensures { λ r. ⌜ r ≡ stored (answerNumbers a) ⌝ }
 {
     let why = a.refusal;

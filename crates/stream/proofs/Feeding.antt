@@ -2,7 +2,7 @@
 use mathlib.Core.Bool.{Bool, false, true}
 use mathlib.Core.List.{List, [], _++_, _∷_, append-assoc, append-nil}
 use mathlib.Core.Path.{_∙_, _≡_, ap, refl, sym}
-use Prim.Native.Nat.{_*_, _+_, _<_, _≤_, ℕ}
+use Prim.Native.Nat.{_*_, _+_, _-_, _<_, _≤_, ℕ}
 use native.Mathlib.Numerals.{add-one}
 use native.Mathlib.Omega.{arith}
 use lib.Dec.{eqb}
@@ -16,11 +16,11 @@ use Rattle.rehearsal.specs.Text.{Adds, lineEnd, lineText}
 use Rattle.rehearsal.specs.declared.Command.{Command}
 use Rattle.sessions.specs.declared.Response.{Response}
 use Rattle.sessions.specs.declared.Session.{Session}
-use Rattle.sessions.specs.Deeds.{Does}
-use Rattle.sessions.specs.declared.deeds.Deed.{Deed}
+use Rattle.deeds.specs.Deeds.{Does}
+use Rattle.deeds.specs.declared.Deed.{Deed}
 use Rattle.answers.specs.Change.{Sends, Takes, changed, fromOther, takenIf, takenQueues, toOther}
-use Rattle.protocol.specs.Bounds.{maxMessages}
-use Rattle.tables.specs.View.{messagesOf, noQueue, packQueue}
+use Rattle.protocol.specs.Bounds.{maxMessages, maxPartitions}
+use Rattle.tables.specs.View.{messagesOf, noQueue, packQueue, partitionAt, queueAt}
 use Rattle.tables.specs.declared.Queue.{Queue}
 use Rattle.tables.specs.declared.Tables.{Tables}
 use Rattle.rehearsal.proofs.Buffers.{adds-length, adds-nothing, adds-on}
@@ -122,7 +122,19 @@ feed-start l n s block out h =
       rest = refl;
     }
 
+pub one-less : (n i : ℕ) → i < n → n - (i + 1) < n - i
+one-less n i h = omega arith
+
 pub ruleset feeding = (feed-start, feed-same, feed-room, feed-line, feed-byte, feed-kept, feed-said)
+
+-- ---- what is taken out of the tables for a command: the places a and b are those that it names
+
+module _ (t : Tables) (a p b q : ℕ) (e : a ≡ p) (f : b ≡ q) where
+  pub partition-named : partitionAt t a ≡ partitionAt t p
+  partition-named = rw e refl
+
+  pub queue-named : queueAt t (a * maxPartitions + b) ≡ queueAt t (p * maxPartitions + q)
+  queue-named = rw (e, f) refl
 
 -- ---- where a change is stored
 

@@ -18,7 +18,6 @@ use rehearsal::Numbers;
 use rehearsal::line;
 use rehearsal::text;
 use sessions::Session;
-use sessions::deeds;
 use tables::MAX_PARTITIONS;
 
 // One byte more than a line may have stands for any more.
@@ -135,7 +134,13 @@ pub fn feed(k: Kept, block: &[u8], out: &mut [u8]) -> Fed
             lines = next_line(lines);
             let command = command_in(line);
             line = no_bytes();
-            let deed = deeds::deed_of(running, tables, command);
+            let places = deeds::places_of(command);
+            let first = places.first;
+            let second = places.second;
+            let own = tables.partitions[first];
+            let receiver = tables.partitions[second];
+            let waiting = tables.queues[first * MAX_PARTITIONS + second];
+            let deed = deeds::deed_of(running, tables, own, receiver, waiting, command);
             if deed.local {
                 let change = deed.change;
                 let at = change.at;

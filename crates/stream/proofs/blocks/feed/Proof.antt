@@ -1,4 +1,4 @@
-use Rattle.stream.proofs.Feeding.{Feeding, feed-deed, feed-kept, feed-said, feeding, from-most, from-packed, from-takes, to-packed, to-sends}
+use Rattle.stream.proofs.Feeding.{Feeding, feed-deed, feed-kept, feed-line, feed-room, feed-said, feeding, from-most, from-packed, from-takes, one-less, partition-named, queue-named, to-packed, to-sends}
 use Rattle.answers.proofs.Applied.{change-stores}
 use Rattle.stream.specs.Feed.{midway}
 use Rattle.stream.specs.Sessions.{lineOf}
@@ -34,8 +34,41 @@ command-in-requires c κs = search (feeding, needs)
 no-bytes-requires : tie.Need-no-bytes-requires Inv-loop μ-loop
 no-bytes-requires c κs = search (feeding, needs)
 
+places-of-requires : tie.Need-places-of-requires Inv-loop μ-loop
+places-of-requires c κs = search (feeding, needs)
+
+mul-own : tie.Need-mul-own Inv-loop μ-loop
+mul-own c = search (feeding, needs)
+
+element-copy-out-own : tie.Need-element-copy-out-own Inv-loop μ-loop
+element-copy-out-own c = search (feeding, needs)
+
+mul-receiver : tie.Need-mul-receiver Inv-loop μ-loop
+mul-receiver c = search (feeding, needs)
+
+element-copy-out-receiver : tie.Need-element-copy-out-receiver Inv-loop μ-loop
+element-copy-out-receiver c = search (feeding, needs)
+
+mul-waiting : tie.Need-mul-waiting Inv-loop μ-loop
+mul-waiting c = search (feeding, needs)
+
+add-waiting : tie.Need-add-waiting Inv-loop μ-loop
+add-waiting c = search (feeding, needs)
+
+mul-waiting-2 : tie.Need-mul-waiting-2 Inv-loop μ-loop
+mul-waiting-2 c = search (feeding, needs)
+
+element-copy-out-waiting : tie.Need-element-copy-out-waiting Inv-loop μ-loop
+element-copy-out-waiting c = search (feeding, needs)
+
 deed-of-requires : tie.Need-deed-of-requires Inv-loop μ-loop
-deed-of-requires c κs = search (feeding, needs)
+deed-of-requires c κs = (
+  partition-named (c .before .before .before .before .before .before .before .before .before .before .loop .tables) _ _ _ _ (c .before .before .before .places-of .ensures .0 .0) (c .before .before .before .places-of .ensures .0 .1),
+  (
+    partition-named (c .before .before .before .before .before .before .before .before .before .before .loop .tables) _ _ _ _ (c .before .before .before .places-of .ensures .0 .1) (c .before .before .before .places-of .ensures .0 .0),
+    queue-named (c .before .before .before .before .before .before .before .before .before .before .loop .tables) _ _ _ _ (c .before .before .before .places-of .ensures .0 .0) (c .before .before .before .places-of .ensures .0 .1),
+  ),
+)
 
 mul-x : tie.Need-mul-x Inv-loop μ-loop
 mul-x c = search (feeding, needs)
@@ -87,8 +120,10 @@ element-copy-out-to : tie.Need-element-copy-out-to Inv-loop μ-loop
 element-copy-out-to c = search (feeding, needs)
 
 sent-if-requires : tie.Need-sent-if-requires Inv-loop μ-loop
-sent-if-requires c κs =
-    (search (to-packed, needs), search (to-sends, needs))
+sent-if-requires c κs = (
+  to-packed _ _ _ _ (c .before .before .before .before .before .before .before .deed-of .ensures) (c .before .before .before .before .before .before .if2 .taken) _ refl _ (c .before .before .taken-if .ensures) _ refl,
+  to-sends _ _ _ _ (c .before .before .before .before .before .before .before .deed-of .ensures) (c .before .before .before .before .before .before .if2 .taken) _ refl _ (c .before .before .taken-if .ensures) _ refl,
+)
 
 mul-more : tie.Need-mul-more Inv-loop μ-loop
 mul-more c = search (feeding, needs)
@@ -103,35 +138,44 @@ element-set-from-more : tie.Need-element-set-from-more Inv-loop μ-loop
 element-set-from-more c = search (feeding, needs)
 
 put-answer-requires : tie.Need-put-answer-requires Inv-loop μ-loop
-put-answer-requires c κs = search (feeding, needs)
+put-answer-requires c κs = feed-room _ _ _ _ _ _ _ _ _ (c .before .before .before .before .before .before .before .before .before .before .before .before .before .before .before .before .before .before .before .before .loop .inv) (c .before .before .before .before .before .before .before .before .before .before .before .before .before .before .before .before .before .before .before .loop-test .taken)
 
 loop-less : tie.Need-loop-less Inv-loop μ-loop
-loop-less c = search (feeding, needs)
+loop-less c = one-less _ _ (c .before .before .before .before .before .before .before .before .before .before .before .before .before .before .before .before .before .before .before .before .before .before .loop-test .taken)
 
 loop-again : tie.Need-loop-again Inv-loop μ-loop
 loop-again c =
-    feed-deed _ _ _ _ _ _ _ _ _ (c .before .before .before .before .before .before .before .before .before .before .before .before .before .before .before .before .before .before .before .loop .inv)
-    (c .before .before .before .before .before .before .before .before .before .before .before .before .before .before .before .before .before .before .loop-test .taken)
-    (c .before .before .before .before .before .before .before .before .before .before .before .before .before .before .before .before .if1 .taken)
-    _ (c .before .before .before .before .before .before .before .before .before .before .before .before .before .before .before .next-line .ensures)
-    _ (c .before .before .before .before .before .before .before .before .before .before .before .before .before .before .command-in .ensures)
+    feed-deed _ _ _ _ _ _ _ _ _ (c .before .before .before .before .before .before .before .before .before .before .before .before .before .before .before .before .before .before .before .before .before .before .before .loop .inv)
+    (c .before .before .before .before .before .before .before .before .before .before .before .before .before .before .before .before .before .before .before .before .before .before .loop-test .taken)
+    (c .before .before .before .before .before .before .before .before .before .before .before .before .before .before .before .before .before .before .before .before .if1 .taken)
+    _ (c .before .before .before .before .before .before .before .before .before .before .before .before .before .before .before .before .before .before .before .next-line .ensures)
+    _ (c .before .before .before .before .before .before .before .before .before .before .before .before .before .before .before .before .before .before .command-in .ensures)
     _ (c .before .before .before .before .before .before .before .before .before .before .before .before .deed-of .ensures)
     (c .before .before .before .before .before .before .before .before .before .before .before .if2 .taken)
     _ _ (c .before .before .put-answer .ensures .0) (c .before .before .put-answer .ensures .1)
-    _ (c .before .before .before .before .before .before .before .before .before .before .before .before .before .no-bytes .ensures)
+    _ (c .before .before .before .before .before .before .before .before .before .before .before .before .before .before .before .before .before .no-bytes .ensures)
     _ (change-stores _ _ _ refl _ (c .before .before .before .before .before .before .before .taken-if .ensures) _ refl _ (c .before .before .before .before .sent-if .ensures))
 
 respond-requires : tie.Need-respond-requires Inv-loop μ-loop
 respond-requires c κs = search (feeding, needs)
 
 put-answer-requires-2 : tie.Need-put-answer-requires-2 Inv-loop μ-loop
-put-answer-requires-2 c κs = search (feeding, needs)
+put-answer-requires-2 c κs = feed-room _ _ _ _ _ _ _ _ _ (c .before .before .before .before .before .before .before .before .before .before .before .before .before .before .loop .inv) (c .before .before .before .before .before .before .before .before .before .before .before .before .before .loop-test .taken)
 
 loop-less-2 : tie.Need-loop-less-2 Inv-loop μ-loop
-loop-less-2 c = search (feeding, needs)
+loop-less-2 c = one-less _ _ (c .before .before .before .before .before .before .before .before .before .before .before .before .before .before .before .before .before .before .loop-test .taken)
 
 loop-again-2 : tie.Need-loop-again-2 Inv-loop μ-loop
-loop-again-2 c = search (feeding, needs)
+loop-again-2 c =
+    feed-line _ _ _ _ _ _ _ _ _ (c .before .before .before .before .before .before .before .before .before .before .before .before .before .before .before .before .before .before .before .loop .inv)
+    (c .before .before .before .before .before .before .before .before .before .before .before .before .before .before .before .before .before .before .loop-test .taken)
+    (c .before .before .before .before .before .before .before .before .before .before .before .before .before .before .before .before .if1 .taken)
+    _ (c .before .before .before .before .before .before .before .before .before .before .before .before .before .before .before .next-line .ensures)
+    _ (c .before .before .before .before .before .before .before .before .before .before .before .before .before .before .command-in .ensures)
+    _ (c .before .before .before .before .before .before .respond .ensures)
+    _ _ (c .before .before .before .before .put-answer2 .ensures .0) (c .before .before .before .before .put-answer2 .ensures .1)
+    _ (c .before .before .before .before .before .before .before .before .before .before .before .before .before .no-bytes .ensures)
+    _ refl
 
 with-byte-requires : tie.Need-with-byte-requires Inv-loop μ-loop
 with-byte-requires c κs = search (feeding, needs)
@@ -161,6 +205,15 @@ feed-spec =
     next-line-requires
     command-in-requires
     no-bytes-requires
+    places-of-requires
+    mul-own
+    element-copy-out-own
+    mul-receiver
+    element-copy-out-receiver
+    mul-waiting
+    add-waiting
+    mul-waiting-2
+    element-copy-out-waiting
     deed-of-requires
     mul-x
     element-set-from-x

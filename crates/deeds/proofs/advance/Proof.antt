@@ -1,9 +1,9 @@
-use Rattle.sessions.proofs.Doing.{advance-done, none-done}
+use Rattle.deeds.proofs.Doing.{advance-done, none-done, taken-own}
 use Rattle.answers.proofs.Ways.{now-four, now-there}
 use Rattle.tables.proofs.Known.{sized}
 use borrow.Author.Needs.{needs}
-use Rattle.sessions.proofs.deeds.advance.Statement.{statement}
-use Rattle.sessions.proofs.deeds.advance.Tie as tie
+use Rattle.deeds.proofs.advance.Statement.{statement}
+use Rattle.deeds.proofs.advance.Tie as tie
 
 element-copy-out-p : tie.Need-element-copy-out-p
 element-copy-out-p c = search (none-done, advance-done, now-there, now-four, sized, needs)
@@ -28,6 +28,7 @@ advance-change-requires c κs = (
   search (now-there, now-four, sized, needs),
   search (now-there, now-four, sized, needs),
   search (now-there, now-four, sized, needs),
+  search (taken-own, now-there, now-four, sized, needs),
 )
 
 with-change-requires : tie.Need-with-change-requires

@@ -1,10 +1,10 @@
-use Rattle.sessions.proofs.Doing.{none-done}
+use Rattle.deeds.proofs.Doing.{none-done}
 use Rattle.deliveries.proofs.Delivers.{pairs, receiver-there, sender-there}
 use Rattle.answers.proofs.Ways.{read-four}
 use Rattle.tables.proofs.Known.{sized}
 use borrow.Author.Needs.{needs}
-use Rattle.sessions.proofs.deeds.deliver.Statement.{statement}
-use Rattle.sessions.proofs.deeds.deliver.Tie as tie
+use Rattle.deeds.proofs.deliver.Statement.{statement}
+use Rattle.deeds.proofs.deliver.Tie as tie
 
 element-copy-out-s : tie.Need-element-copy-out-s
 element-copy-out-s c = search (none-done, pairs, sized, needs)
@@ -23,11 +23,14 @@ returns c = search (none-done, pairs, sized, needs)
 
 deliver-there-requires : tie.Need-deliver-there-requires
 deliver-there-requires c κs = (
+  (
+    search needs,
+    search (sender-there, sized, needs),
+    search (receiver-there, sized, needs),
+    search (sender-there, read-four, sized, needs),
+    search (receiver-there, read-four, sized, needs),
+  ),
   search needs,
-  search (sender-there, sized, needs),
-  search (receiver-there, sized, needs),
-  search (sender-there, read-four, sized, needs),
-  search (receiver-there, read-four, sized, needs),
 )
 
 returns-2 : tie.Need-returns-2

@@ -1,17 +1,17 @@
 // What a command does where it changes one partition only: link, create, unlink, advance, deliver and recover. The tables are not
-// given back: who holds them stores the change where they stand.
+// given back: who holds them stores the change where they stand. Nor are they read here but as a whole: who holds them also takes
+// out of them the partition that a command's first number names, the one that its second names, and the queue between the two.
 ghost use mathlib.Core.Bool.{true};
 ghost use mathlib.Core.Path.{_≡_};
-ghost use Prim.Native.Nat.{_<_};
+ghost use Prim.Native.Nat.{_*_, _+_, _<_};
 ghost use Rattle.protocol.specs.Ask.{ask};
 ghost use Rattle.protocol.specs.Bounds.{maxPartitions};
-ghost use Rattle.tables.specs.View.{view};
+ghost use Rattle.tables.specs.View.{partitionAt, queueAt, view};
 ghost use Rattle.answers.specs.Called.{Ready, tested};
 ghost use Rattle.rehearsal.specs.Rehearsal.{argument};
 ghost use Rattle.rehearsal.specs.declared.Verb.the-variants.{Advance, Deliver, Recover, Unlink};
-ghost use Rattle.sessions.specs.Deeds.{Does, deedWith, noDeed};
+ghost use Rattle.deeds.specs.Deeds.{Does, deedWith, fitted, noDeed, placeIn};
 ghost use Rattle.sessions.specs.Session.{afterEvent, responded, respondedTo};
-use crate::numbers_of;
 use answers::changes::Change;
 use answers::changes::keeps;
 use answers::is_there;
@@ -21,6 +21,10 @@ use rehearsal::Command;
 use rehearsal::Numbers;
 use rehearsal::Verb;
 use rehearsal::answer;
+use sessions::numbers_of;
+use tables::MAX_PARTITIONS;
+use tables::Partition;
+use tables::Queue;
 use tables::Tables;
 
 // Whether the command is one of these, and then its answer and its change.
@@ -28,6 +32,34 @@ pub struct Deed {
     pub local: bool,
     pub numbers: Numbers,
     pub change: Change,
+}
+
+// Where the partitions stand that a command's first two numbers name.
+pub struct Places {
+    pub first: usize,
+    pub second: usize,
+}
+
+// A number that no partition can have is as good as 0 here: the command is then refused whatever stands there.
+fn place(n: u32) -> usize
+    ensures { λ r. ⌜ (r ≡ fitted n) × (r < maxPartitions) ⌝ }
+{
+    let at = n as usize;
+    if at < MAX_PARTITIONS {
+        return at;
+    }
+    0
+}
+
+pub fn places_of(c: Command) -> Places
+    ensures { λ r. ⌜ (r .first ≡ placeIn c 0) × (r .second ≡ placeIn c 1) ⌝ }
+    ensures { λ r. ⌜ (r .first < maxPartitions) × (r .second < maxPartitions) ⌝ }
+{
+    let a = c.numbers[0];
+    let b = c.numbers[1];
+    let first = place(a);
+    let second = place(b);
+    Places { first, second }
 }
 
 // The command is none of these; the change is one that is not stored.
@@ -57,8 +89,8 @@ fn with_change(change: Change) -> Deed
 }
 
 // A link or a create of a partition that is there.
-fn ask_there(kind: Kind, t: Tables, c: Command) -> Deed
-    requires { ⌜ Ready t × (argument c 0 < t .count) ⌝ }
+fn ask_there(kind: Kind, t: Tables, own: Partition, c: Command) -> Deed
+    requires { ⌜ Ready t × (argument c 0 < t .count) × (own ≡ partitionAt t (placeIn c 0)) ⌝ }
     ensures { λ d. ⌜ Does d true t (afterEvent (tested t (ask kind (view t) (argument c 0) (argument c 1) (c .name) (argument c 3) (argument c 4)))) ⌝ }
 {
     let name = c.name;
@@ -66,23 +98,23 @@ fn ask_there(kind: Kind, t: Tables, c: Command) -> Deed
     let d = c.numbers[1];
     let q = c.numbers[3];
     let o = c.numbers[4];
-    let change = asks::ask_change(kind, t, p, d, name, q, o);
+    let change = asks::ask_change(kind, t, own, p, d, name, q, o);
     with_change(change)
 }
 
-fn ask(kind: Kind, t: Tables, c: Command) -> Deed
-    requires { ⌜ Ready t ⌝ }
+fn ask(kind: Kind, t: Tables, own: Partition, c: Command) -> Deed
+    requires { ⌜ Ready t × (own ≡ partitionAt t (placeIn c 0)) ⌝ }
     ensures { λ d. ⌜ Does d true t (afterEvent (tested t (ask kind (view t) (argument c 0) (argument c 1) (c .name) (argument c 3) (argument c 4)))) ⌝ }
 {
     let p = c.numbers[0];
     if is_there(t.count, p) {} else {
         return none(t);
     }
-    ask_there(kind, t, c)
+    ask_there(kind, t, own, c)
 }
 
-fn unlink(t: Tables, c: Command) -> Deed
-    requires { ⌜ Ready t ⌝ }
+fn unlink(t: Tables, own: Partition, c: Command) -> Deed
+    requires { ⌜ Ready t × (own ≡ partitionAt t (placeIn c 0)) ⌝ }
     ensures { λ d. ⌜ Does d true t (respondedTo Unlink c t) ⌝ }
 {
     let name = c.name;
@@ -91,12 +123,12 @@ fn unlink(t: Tables, c: Command) -> Deed
     if is_there(t.count, p) {} else {
         return none(t);
     }
-    let change = asks::unlink_change(t, p, d, name);
+    let change = asks::unlink_change(t, own, p, d, name);
     with_change(change)
 }
 
-fn advance(t: Tables, c: Command) -> Deed
-    requires { ⌜ Ready t ⌝ }
+fn advance(t: Tables, own: Partition, c: Command) -> Deed
+    requires { ⌜ Ready t × (own ≡ partitionAt t (placeIn c 0)) ⌝ }
     ensures { λ d. ⌜ Does d true t (respondedTo Advance c t) ⌝ }
 {
     let p = c.numbers[0];
@@ -104,23 +136,25 @@ fn advance(t: Tables, c: Command) -> Deed
     if is_there(t.count, p) {} else {
         return none(t);
     }
-    let change = advances::advance_change(t, p as usize, number);
+    let change = advances::advance_change(t, own, p as usize, number);
     with_change(change)
 }
 
 // Sender and receiver are there.
-fn deliver_there(t: Tables, c: Command) -> Deed
+fn deliver_there(t: Tables, receiver: Partition, waiting: Queue, c: Command) -> Deed
     requires { ⌜ Ready t × (argument c 0 < t .count) × (argument c 1 < t .count) × (argument c 0 < maxPartitions) × (argument c 1 < maxPartitions) ⌝ }
+    requires { ⌜ (receiver ≡ partitionAt t (placeIn c 1)) × (waiting ≡ queueAt t (placeIn c 0 * maxPartitions + placeIn c 1)) ⌝ }
     ensures { λ d. ⌜ Does d true t (respondedTo Deliver c t) ⌝ }
 {
     let s = c.numbers[0];
     let r = c.numbers[1];
-    let change = deliveries::deliver_change(t, s as usize, r as usize);
+    let change = deliveries::deliver_change(t, receiver, waiting, s as usize, r as usize);
     with_change(change)
 }
 
-fn deliver(t: Tables, c: Command) -> Deed
+fn deliver(t: Tables, receiver: Partition, waiting: Queue, c: Command) -> Deed
     requires { ⌜ Ready t ⌝ }
+    requires { ⌜ (receiver ≡ partitionAt t (placeIn c 1)) × (waiting ≡ queueAt t (placeIn c 0 * maxPartitions + placeIn c 1)) ⌝ }
     ensures { λ d. ⌜ Does d true t (respondedTo Deliver c t) ⌝ }
 {
     let s = c.numbers[0];
@@ -128,35 +162,43 @@ fn deliver(t: Tables, c: Command) -> Deed
     if deliveries::are_there(t.count, s, r) {} else {
         return none(t);
     }
-    deliver_there(t, c)
+    deliver_there(t, receiver, waiting, c)
 }
 
-fn recover(t: Tables, c: Command) -> Deed
-    requires { ⌜ Ready t ⌝ }
+fn recover(t: Tables, own: Partition, c: Command) -> Deed
+    requires { ⌜ Ready t × (own ≡ partitionAt t (placeIn c 0)) ⌝ }
     ensures { λ d. ⌜ Does d true t (respondedTo Recover c t) ⌝ }
 {
     let p = c.numbers[0];
     if is_there(t.count, p) {} else {
         return none(t);
     }
-    let change = faults::recover_change(t, p as usize);
+    let change = faults::recover_change(t, own, p as usize);
     with_change(change)
 }
 
-fn done_to(verb: Verb, t: Tables, c: Command) -> Deed
-    requires { ⌜ Ready t ⌝ }
+fn done_to(
+    verb: Verb,
+    t: Tables,
+    own: Partition,
+    receiver: Partition,
+    waiting: Queue,
+    c: Command,
+) -> Deed
+    requires { ⌜ Ready t × (own ≡ partitionAt t (placeIn c 0)) ⌝ }
+    requires { ⌜ (receiver ≡ partitionAt t (placeIn c 1)) × (waiting ≡ queueAt t (placeIn c 0 * maxPartitions + placeIn c 1)) ⌝ }
     ensures { λ d. ⌜ Does d true t (respondedTo verb c t) ⌝ }
 {
     match verb {
         Verb::Open => none(t),
-        Verb::Link => ask(Kind::Link, t, c),
-        Verb::Create => ask(Kind::Create, t, c),
-        Verb::Unlink => unlink(t, c),
-        Verb::Advance => advance(t, c),
-        Verb::Deliver => deliver(t, c),
+        Verb::Link => ask(Kind::Link, t, own, c),
+        Verb::Create => ask(Kind::Create, t, own, c),
+        Verb::Unlink => unlink(t, own, c),
+        Verb::Advance => advance(t, own, c),
+        Verb::Deliver => deliver(t, receiver, waiting, c),
         Verb::Cut => none(t),
         Verb::Crash => none(t),
-        Verb::Recover => recover(t, c),
+        Verb::Recover => recover(t, own, c),
         Verb::Settle => none(t),
         Verb::Totals => none(t),
         Verb::Square => none(t),
@@ -183,7 +225,16 @@ fn is_local(verb: Verb) -> bool {
     }
 }
 
-pub fn deed_of(running: bool, t: Tables, c: Command) -> Deed
+pub fn deed_of(
+    running: bool,
+    t: Tables,
+    own: Partition,
+    receiver: Partition,
+    waiting: Queue,
+    c: Command,
+) -> Deed
+    requires { ⌜ own ≡ partitionAt t (placeIn c 0) ⌝ }
+    requires { ⌜ (receiver ≡ partitionAt t (placeIn c 1)) × (waiting ≡ queueAt t (placeIn c 0 * maxPartitions + placeIn c 1)) ⌝ }
     ensures { λ d. ⌜ Does d running t (responded (record { «open» = running; tables = t }) c) ⌝ }
 {
     if running {} else {
@@ -196,5 +247,5 @@ pub fn deed_of(running: bool, t: Tables, c: Command) -> Deed
     if order::in_order(t) {} else {
         return none(t);
     }
-    done_to(verb, t, c)
+    done_to(verb, t, own, receiver, waiting, c)
 }

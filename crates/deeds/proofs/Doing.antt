@@ -1,17 +1,23 @@
 -- A change of one partition is what its command does.
 use mathlib.Core.Bool.{Bool, true}
-use mathlib.Core.Path.{_∙_, _≡_, ap, refl, subst}
+use mathlib.Core.Path.{_∙_, _≡_, ap, ap₂, refl, subst, sym}
+use Prim.Native.Nat.{_*_, _+_, _<_, _≤_, ℕ}
 use native.Mathlib.Omega.{arith}
+use borrow.Author.Tests.{le-ltb, lt-ltb}
+use Rattle.lists.specs.Lists.{pick}
 use Rattle.lists.proofs.Tests.{no-true}
 use Rattle.protocol.specs.Advance.{advance}
 use Rattle.protocol.specs.Answers.{Outcome}
 use Rattle.protocol.specs.Ask.{ask, unlink}
+use Rattle.protocol.specs.Bounds.{maxPartitions}
 use Rattle.protocol.specs.Deliver.{deliver}
 use Rattle.protocol.specs.Events.{Advancing, Creating, Delivering, Event, Linking, Recovering, Unlinking, bare, tests}
 use Rattle.protocol.specs.Faults.{recover}
 use Rattle.protocol.specs.declared.Kind.{Kind}
 use Rattle.protocol.specs.declared.Kind.the-variants.{Create as CreateKind, Link as LinkKind}
-use Rattle.tables.specs.View.{Sized, view}
+use Rattle.tables.specs.View.{Sized, partitionAt, queueAt, view}
+use Rattle.tables.specs.declared.Partition.{Partition}
+use Rattle.tables.specs.declared.Queue.{Queue}
 use Rattle.tables.specs.declared.Tables.{Tables}
 use Rattle.answers.specs.Called.{Ready, called, stored, tested}
 use Rattle.answers.specs.Change.{Applies, applied}
@@ -23,8 +29,30 @@ use Rattle.rehearsal.specs.declared.Command.{Command}
 use Rattle.rehearsal.specs.declared.Verb.{Verb}
 use Rattle.rehearsal.specs.declared.Verb.the-variants.{Advance, Create, Deliver, Link, Recover, Unlink}
 use Rattle.rehearsal.specs.Rehearsal.{argument}
-use Rattle.sessions.specs.Deeds.{Deed, Does, Queued, deedWith, noDeed}
-use Rattle.sessions.specs.Session.{Response, afterEvent, responded, respondedTo}
+use Rattle.deeds.specs.Deeds.{Deed, Does, Queued, deedWith, fitted, noDeed}
+use Rattle.sessions.specs.Session.{afterEvent, responded, respondedTo}
+use Rattle.sessions.specs.declared.Response.{Response}
+
+-- ---- what was taken out of the tables for a command
+
+fits-there : (n : ℕ) → n < maxPartitions → fitted n ≡ n
+fits-there n h = rw (lt-ltb n maxPartitions h) refl
+
+module _ (n : ℕ) where
+  pub place-there : n < maxPartitions → (n ≡ fitted n) × (n < maxPartitions)
+  place-there h = (sym (fits-there n h), h)
+
+  pub place-none : maxPartitions ≤ n → (0 ≡ fitted n) × (0 < maxPartitions)
+  place-none h = (rw (le-ltb n maxPartitions h) refl, omega arith)
+
+module _ (t : Tables) where
+  pub taken-own : (x : Partition) (n : ℕ) → n < maxPartitions → x ≡ partitionAt t (fitted n) → x ≡ partitionAt t n
+  taken-own x n h e = e ∙ ap (partitionAt t) (fits-there n h)
+
+  pub taken-waiting : (q : Queue) (s r : ℕ) → s < maxPartitions → r < maxPartitions → q ≡ queueAt t (fitted s * maxPartitions + fitted r) → q ≡ queueAt t (s * maxPartitions + r)
+  taken-waiting q s r h k e = e ∙ ap₂ (λ (a b : ℕ). queueAt t (a * maxPartitions + b)) (fits-there s h) (fits-there r k)
+
+-- ---- what is done
 
 queues-there : (t : Tables) → Sized t → (x : Change) → Applies t x → Queued t x
 queues-there t z x h =

@@ -1,8 +1,8 @@
-use Rattle.sessions.proofs.Doing.{deliver-done}
+use Rattle.deeds.proofs.Doing.{deliver-done, taken-own, taken-waiting}
 use Rattle.tables.proofs.Known.{sized}
 use borrow.Author.Needs.{needs}
-use Rattle.sessions.proofs.deeds.deliver_there.Statement.{statement}
-use Rattle.sessions.proofs.deeds.deliver_there.Tie as tie
+use Rattle.deeds.proofs.deliver_there.Statement.{statement}
+use Rattle.deeds.proofs.deliver_there.Tie as tie
 
 element-copy-out-s : tie.Need-element-copy-out-s
 element-copy-out-s c = search (deliver-done, sized, needs)
@@ -17,7 +17,15 @@ cast-deliver-change-2 : tie.Need-cast-deliver-change-2
 cast-deliver-change-2 c = search (deliver-done, sized, needs)
 
 deliver-change-requires : tie.Need-deliver-change-requires
-deliver-change-requires c κs = search (deliver-done, sized, needs)
+deliver-change-requires c κs = (
+  search (sized, needs),
+  search (sized, needs),
+  search (sized, needs),
+  search (sized, needs),
+  search (sized, needs),
+  search (taken-waiting, sized, needs),
+  search (taken-own, sized, needs),
+)
 
 with-change-requires : tie.Need-with-change-requires
 with-change-requires c κs = search (deliver-done, sized, needs)

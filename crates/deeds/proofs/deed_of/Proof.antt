@@ -1,9 +1,9 @@
-use Rattle.sessions.proofs.Doing.{none-done, session-done}
+use Rattle.deeds.proofs.Doing.{none-done, session-done}
 use Rattle.answers.proofs.Ways.{now-ready}
 use Rattle.tables.proofs.Known.{sized}
 use borrow.Author.Needs.{needs}
-use Rattle.sessions.proofs.deeds.deed_of.Statement.{statement}
-use Rattle.sessions.proofs.deeds.deed_of.Tie as tie
+use Rattle.deeds.proofs.deed_of.Statement.{statement}
+use Rattle.deeds.proofs.deed_of.Tie as tie
 
 none-requires : tie.Need-none-requires
 none-requires c κs = search (none-done, session-done, now-ready, sized, needs)

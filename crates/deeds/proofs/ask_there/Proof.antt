@@ -1,8 +1,9 @@
-use Rattle.sessions.proofs.Doing.{outcome-done}
+use Rattle.deeds.proofs.Doing.{outcome-done, taken-own}
+use Rattle.answers.proofs.Ways.{read-four}
 use Rattle.tables.proofs.Known.{sized}
 use borrow.Author.Needs.{needs}
-use Rattle.sessions.proofs.deeds.ask_there.Statement.{statement}
-use Rattle.sessions.proofs.deeds.ask_there.Tie as tie
+use Rattle.deeds.proofs.ask_there.Statement.{statement}
+use Rattle.deeds.proofs.ask_there.Tie as tie
 
 element-copy-out-p : tie.Need-element-copy-out-p
 element-copy-out-p c = search (outcome-done, sized, needs)
@@ -17,7 +18,8 @@ element-copy-out-o : tie.Need-element-copy-out-o
 element-copy-out-o c = search (outcome-done, sized, needs)
 
 ask-change-requires : tie.Need-ask-change-requires
-ask-change-requires c κs = search (outcome-done, sized, needs)
+ask-change-requires c κs =
+    (search (sized, needs), search (sized, needs), search (taken-own, read-four, sized, needs))
 
 with-change-requires : tie.Need-with-change-requires
 with-change-requires c κs = search (outcome-done, sized, needs)

@@ -1,9 +1,9 @@
-use Rattle.sessions.proofs.Doing.{none-done, unlink-done}
+use Rattle.deeds.proofs.Doing.{none-done, taken-own, unlink-done}
 use Rattle.answers.proofs.Ways.{now-four, now-there}
 use Rattle.tables.proofs.Known.{sized}
 use borrow.Author.Needs.{needs}
-use Rattle.sessions.proofs.deeds.unlink.Statement.{statement}
-use Rattle.sessions.proofs.deeds.unlink.Tie as tie
+use Rattle.deeds.proofs.unlink.Statement.{statement}
+use Rattle.deeds.proofs.unlink.Tie as tie
 
 element-copy-out-p : tie.Need-element-copy-out-p
 element-copy-out-p c = search (none-done, unlink-done, now-there, now-four, sized, needs)
@@ -24,6 +24,7 @@ unlink-change-requires : tie.Need-unlink-change-requires
 unlink-change-requires c κs = (
   search (now-there, now-four, sized, needs),
   search (now-there, now-four, sized, needs),
+  search (taken-own, now-there, now-four, sized, needs),
 )
 
 with-change-requires : tie.Need-with-change-requires

@@ -1,8 +1,8 @@
-use Rattle.sessions.proofs.Doing.{verbs-done}
+use Rattle.deeds.proofs.Doing.{verbs-done}
 use Rattle.tables.proofs.Known.{sized}
 use borrow.Author.Needs.{needs}
-use Rattle.sessions.proofs.deeds.done_to.Statement.{statement}
-use Rattle.sessions.proofs.deeds.done_to.Tie as tie
+use Rattle.deeds.proofs.done_to.Statement.{statement}
+use Rattle.deeds.proofs.done_to.Tie as tie
 
 enum-told : tie.Need-enum-told
 enum-told c = search (verbs-done, sized, needs)

@@ -1,9 +1,9 @@
-use Rattle.sessions.proofs.Doing.{none-done}
+use Rattle.deeds.proofs.Doing.{none-done}
 use Rattle.answers.proofs.Ways.{now-there}
 use Rattle.tables.proofs.Known.{sized}
 use borrow.Author.Needs.{needs}
-use Rattle.sessions.proofs.deeds.ask.Statement.{statement}
-use Rattle.sessions.proofs.deeds.ask.Tie as tie
+use Rattle.deeds.proofs.ask.Statement.{statement}
+use Rattle.deeds.proofs.ask.Tie as tie
 
 element-copy-out-p : tie.Need-element-copy-out-p
 element-copy-out-p c = search (none-done, now-there, sized, needs)

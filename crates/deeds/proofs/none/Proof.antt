@@ -1,6 +1,6 @@
 use borrow.Author.Needs.{needs}
-use Rattle.sessions.proofs.deeds.none.Statement.{statement}
-use Rattle.sessions.proofs.deeds.none.Tie as tie
+use Rattle.deeds.proofs.none.Statement.{statement}
+use Rattle.deeds.proofs.none.Tie as tie
 
 element-copy-out-x : tie.Need-element-copy-out-x
 element-copy-out-x c = search needs

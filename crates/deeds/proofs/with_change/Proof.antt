@@ -1,6 +1,6 @@
 use borrow.Author.Needs.{needs}
-use Rattle.sessions.proofs.deeds.with_change.Statement.{statement}
-use Rattle.sessions.proofs.deeds.with_change.Tie as tie
+use Rattle.deeds.proofs.with_change.Statement.{statement}
+use Rattle.deeds.proofs.with_change.Tie as tie
 
 numbers-of-requires : tie.Need-numbers-of-requires
 numbers-of-requires c κs = search needs

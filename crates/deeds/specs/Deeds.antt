@@ -2,8 +2,10 @@
 use mathlib.Core.Bool.{Bool, false, true}
 use mathlib.Core.List.{[], _∷_}
 use mathlib.Core.Path.{_≡_}
-use Prim.Native.Nat.{_<_, _≤_}
+use Prim.Native.Nat.{_<_, _≤_, ℕ}
+use lib.Dec.{ltb}
 use lib.ListN.{getD}
+use Rattle.lists.specs.Lists.{pick}
 use Rattle.protocol.specs.Bounds.{maxMessages, maxPartitions}
 use Rattle.protocol.specs.declared.Refusal.the-variants.{OutOfOrder}
 use Rattle.tables.specs.View.{messagesOf, noQueue, packQueue, partitionAt}
@@ -11,9 +13,17 @@ use Rattle.tables.specs.declared.Tables.{Tables}
 use Rattle.answers.specs.Change.{Sends, Takes, changed, fromOther, keepsWith, takenQueues, toOther}
 use Rattle.answers.specs.declared.changes.Change.{Change}
 use Rattle.rehearsal.specs.Answers.{stored}
-use Rattle.rehearsal.specs.Rehearsal.{answerNumbers}
-use Rattle.sessions.specs.Session.{Response}
-pub use Rattle.sessions.specs.declared.deeds.Deed.{Deed}
+use Rattle.rehearsal.specs.Rehearsal.{answerNumbers, argument}
+use Rattle.rehearsal.specs.declared.Command.{Command}
+use Rattle.sessions.specs.declared.Response.{Response}
+pub use Rattle.deeds.specs.declared.Deed.{Deed}
+
+-- where the partition stands that a number names; a number that none can have is as good as 0
+abbrev pub fitted : ℕ → ℕ
+fitted n = pick (ltb n maxPartitions) n 0
+
+abbrev pub placeIn : Command → ℕ → ℕ
+placeIn c k = fitted (argument c k)
 
 -- the change is all that the command does
 abbrev pub deedWith : Change → Deed

@@ -1,9 +1,9 @@
-use Rattle.sessions.proofs.Doing.{none-done, recover-done}
+use Rattle.deeds.proofs.Doing.{none-done, recover-done, taken-own}
 use Rattle.answers.proofs.Ways.{now-four, now-there}
 use Rattle.tables.proofs.Known.{sized}
 use borrow.Author.Needs.{needs}
-use Rattle.sessions.proofs.deeds.recover.Statement.{statement}
-use Rattle.sessions.proofs.deeds.recover.Tie as tie
+use Rattle.deeds.proofs.recover.Statement.{statement}
+use Rattle.deeds.proofs.recover.Tie as tie
 
 element-copy-out-p : tie.Need-element-copy-out-p
 element-copy-out-p c = search (none-done, recover-done, now-there, now-four, sized, needs)
@@ -21,7 +21,12 @@ cast-recover-change : tie.Need-cast-recover-change
 cast-recover-change c = search (none-done, recover-done, now-there, now-four, sized, needs)
 
 recover-change-requires : tie.Need-recover-change-requires
-recover-change-requires c κs = search (none-done, recover-done, now-there, now-four, sized, needs)
+recover-change-requires c κs = (
+  search (now-there, now-four, sized, needs),
+  search (now-there, now-four, sized, needs),
+  search (now-there, now-four, sized, needs),
+  search (taken-own, now-there, now-four, sized, needs),
+)
 
 with-change-requires : tie.Need-with-change-requires
 with-change-requires c κs = search (none-done, recover-done, now-there, now-four, sized, needs)
