@@ -2,13 +2,15 @@
 use mathlib.Core.Bool.{Bool, false, true}
 use mathlib.Core.List.{[], _∷_}
 use mathlib.Core.Path.{_≡_}
-use Prim.Native.Nat.{_<_, _≤_, ℕ}
+use Prim.Native.Nat.{_*_, _+_, _<_, _≤_, ℕ}
 use lib.Dec.{ltb}
 use lib.ListN.{getD}
 use Rattle.lists.specs.Lists.{pick}
 use Rattle.protocol.specs.Bounds.{maxMessages, maxPartitions}
 use Rattle.protocol.specs.declared.Refusal.the-variants.{OutOfOrder}
-use Rattle.tables.specs.View.{messagesOf, noQueue, packQueue, partitionAt}
+use Rattle.tables.specs.View.{messagesOf, noQueue, packQueue, partitionAt, queueAt}
+use Rattle.tables.specs.declared.Partition.{Partition}
+use Rattle.tables.specs.declared.Queue.{Queue}
 use Rattle.tables.specs.declared.Tables.{Tables}
 use Rattle.answers.specs.Change.{Sends, Takes, changed, fromOther, keepsWith, takenQueues, toOther}
 use Rattle.answers.specs.declared.changes.Change.{Change}
@@ -24,6 +26,14 @@ fitted n = pick (ltb n maxPartitions) n 0
 
 abbrev pub placeIn : Command → ℕ → ℕ
 placeIn c k = fitted (argument c k)
+
+-- what is taken out of the tables for a command: the partition that its first number names
+abbrev pub Owns : Tables → Command → Partition → Type 0
+Owns t c x = x ≡ partitionAt t (placeIn c 0)
+
+-- and, for a delivery, the partition that its second names and the queue to it
+abbrev pub Receives : Tables → Command → Partition → Queue → Type 0
+Receives t c x q = (x ≡ partitionAt t (placeIn c 1)) × (q ≡ queueAt t (placeIn c 0 * maxPartitions + placeIn c 1))
 
 -- the change is all that the command does
 abbrev pub deedWith : Change → Deed

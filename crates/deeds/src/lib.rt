@@ -3,14 +3,14 @@
 // out of them the partition that a command's first number names, the one that its second names, and the queue between the two.
 ghost use mathlib.Core.Bool.{true};
 ghost use mathlib.Core.Path.{_≡_};
-ghost use Prim.Native.Nat.{_*_, _+_, _<_};
+ghost use Prim.Native.Nat.{_<_};
 ghost use Rattle.protocol.specs.Ask.{ask};
 ghost use Rattle.protocol.specs.Bounds.{maxPartitions};
-ghost use Rattle.tables.specs.View.{partitionAt, queueAt, view};
+ghost use Rattle.tables.specs.View.{view};
 ghost use Rattle.answers.specs.Called.{Ready, tested};
 ghost use Rattle.rehearsal.specs.Rehearsal.{argument};
 ghost use Rattle.rehearsal.specs.declared.Verb.the-variants.{Advance, Deliver, Recover, Unlink};
-ghost use Rattle.deeds.specs.Deeds.{Does, deedWith, fitted, noDeed, placeIn};
+ghost use Rattle.deeds.specs.Deeds.{Does, Owns, Receives, deedWith, fitted, noDeed, placeIn};
 ghost use Rattle.sessions.specs.Session.{afterEvent, responded, respondedTo};
 use answers::changes::Change;
 use answers::changes::keeps;
@@ -90,7 +90,7 @@ fn with_change(change: Change) -> Deed
 
 // A link or a create of a partition that is there.
 fn ask_there(kind: Kind, t: Tables, own: Partition, c: Command) -> Deed
-    requires { ⌜ Ready t × (argument c 0 < t .count) × (own ≡ partitionAt t (placeIn c 0)) ⌝ }
+    requires { ⌜ Ready t × (argument c 0 < t .count) × Owns t c own ⌝ }
     ensures { λ d. ⌜ Does d true t (afterEvent (tested t (ask kind (view t) (argument c 0) (argument c 1) (c .name) (argument c 3) (argument c 4)))) ⌝ }
 {
     let name = c.name;
@@ -103,7 +103,7 @@ fn ask_there(kind: Kind, t: Tables, own: Partition, c: Command) -> Deed
 }
 
 fn ask(kind: Kind, t: Tables, own: Partition, c: Command) -> Deed
-    requires { ⌜ Ready t × (own ≡ partitionAt t (placeIn c 0)) ⌝ }
+    requires { ⌜ Ready t × Owns t c own ⌝ }
     ensures { λ d. ⌜ Does d true t (afterEvent (tested t (ask kind (view t) (argument c 0) (argument c 1) (c .name) (argument c 3) (argument c 4)))) ⌝ }
 {
     let p = c.numbers[0];
@@ -114,7 +114,7 @@ fn ask(kind: Kind, t: Tables, own: Partition, c: Command) -> Deed
 }
 
 fn unlink(t: Tables, own: Partition, c: Command) -> Deed
-    requires { ⌜ Ready t × (own ≡ partitionAt t (placeIn c 0)) ⌝ }
+    requires { ⌜ Ready t × Owns t c own ⌝ }
     ensures { λ d. ⌜ Does d true t (respondedTo Unlink c t) ⌝ }
 {
     let name = c.name;
@@ -128,7 +128,7 @@ fn unlink(t: Tables, own: Partition, c: Command) -> Deed
 }
 
 fn advance(t: Tables, own: Partition, c: Command) -> Deed
-    requires { ⌜ Ready t × (own ≡ partitionAt t (placeIn c 0)) ⌝ }
+    requires { ⌜ Ready t × Owns t c own ⌝ }
     ensures { λ d. ⌜ Does d true t (respondedTo Advance c t) ⌝ }
 {
     let p = c.numbers[0];
@@ -143,7 +143,7 @@ fn advance(t: Tables, own: Partition, c: Command) -> Deed
 // Sender and receiver are there.
 fn deliver_there(t: Tables, receiver: Partition, waiting: Queue, c: Command) -> Deed
     requires { ⌜ Ready t × (argument c 0 < t .count) × (argument c 1 < t .count) × (argument c 0 < maxPartitions) × (argument c 1 < maxPartitions) ⌝ }
-    requires { ⌜ (receiver ≡ partitionAt t (placeIn c 1)) × (waiting ≡ queueAt t (placeIn c 0 * maxPartitions + placeIn c 1)) ⌝ }
+    requires { ⌜ Receives t c receiver waiting ⌝ }
     ensures { λ d. ⌜ Does d true t (respondedTo Deliver c t) ⌝ }
 {
     let s = c.numbers[0];
@@ -154,7 +154,7 @@ fn deliver_there(t: Tables, receiver: Partition, waiting: Queue, c: Command) -> 
 
 fn deliver(t: Tables, receiver: Partition, waiting: Queue, c: Command) -> Deed
     requires { ⌜ Ready t ⌝ }
-    requires { ⌜ (receiver ≡ partitionAt t (placeIn c 1)) × (waiting ≡ queueAt t (placeIn c 0 * maxPartitions + placeIn c 1)) ⌝ }
+    requires { ⌜ Receives t c receiver waiting ⌝ }
     ensures { λ d. ⌜ Does d true t (respondedTo Deliver c t) ⌝ }
 {
     let s = c.numbers[0];
@@ -166,7 +166,7 @@ fn deliver(t: Tables, receiver: Partition, waiting: Queue, c: Command) -> Deed
 }
 
 fn recover(t: Tables, own: Partition, c: Command) -> Deed
-    requires { ⌜ Ready t × (own ≡ partitionAt t (placeIn c 0)) ⌝ }
+    requires { ⌜ Ready t × Owns t c own ⌝ }
     ensures { λ d. ⌜ Does d true t (respondedTo Recover c t) ⌝ }
 {
     let p = c.numbers[0];
@@ -185,8 +185,8 @@ fn done_to(
     waiting: Queue,
     c: Command,
 ) -> Deed
-    requires { ⌜ Ready t × (own ≡ partitionAt t (placeIn c 0)) ⌝ }
-    requires { ⌜ (receiver ≡ partitionAt t (placeIn c 1)) × (waiting ≡ queueAt t (placeIn c 0 * maxPartitions + placeIn c 1)) ⌝ }
+    requires { ⌜ Ready t × Owns t c own ⌝ }
+    requires { ⌜ Receives t c receiver waiting ⌝ }
     ensures { λ d. ⌜ Does d true t (respondedTo verb c t) ⌝ }
 {
     match verb {
@@ -233,8 +233,8 @@ pub fn deed_of(
     waiting: Queue,
     c: Command,
 ) -> Deed
-    requires { ⌜ own ≡ partitionAt t (placeIn c 0) ⌝ }
-    requires { ⌜ (receiver ≡ partitionAt t (placeIn c 1)) × (waiting ≡ queueAt t (placeIn c 0 * maxPartitions + placeIn c 1)) ⌝ }
+    requires { ⌜ Owns t c own ⌝ }
+    requires { ⌜ Receives t c receiver waiting ⌝ }
     ensures { λ d. ⌜ Does d running t (responded (record { «open» = running; tables = t }) c) ⌝ }
 {
     if running {} else {
