@@ -40,6 +40,7 @@ pub fn same(a: Name, b: Name) -> bool
     same
 }
 
+// A byte as a number, with what its type says of it: a loop does not know it of a byte that it reads.
 fn value(b: u8) -> u64
     ensures { λ r. ⌜ (r ≡ b) × (r < byteValues) ⌝ }
 {

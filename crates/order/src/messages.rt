@@ -210,7 +210,8 @@ pub fn records_answered(xs: Records, r: u8, q: Queue, back: Queue) -> bool
     true
 }
 
-// The queue q from s to r and the queue back, the records xs of s and ys of r; whether both partitions are up.
+// The queue q from s to r and the queue back, the records xs of s and ys of r; whether both partitions are up. Where s has no record,
+// none waits for an answer, and no list is handed on for it.
 pub fn pair_in_order(
     up: bool,
     xs: Records,

@@ -1,5 +1,5 @@
-// O1 to O5 and the records' half of O7: what is asked of one partition, among so many. Each list is handed on as seldom as can be:
-// it is a kilobyte, and goes by value.
+// O1 to O5 and the records' half of O7: what is asked of one partition, among so many. Each list is handed on as seldom as can be,
+// and a list of none only to be seen that its slots are free: it is a kilobyte, and goes by value.
 ghost use Prim.Native.Nat.{_≤_};
 ghost use mathlib.Core.Path.{_≡_};
 ghost use Rattle.lists.specs.Lists.{all, apart};
