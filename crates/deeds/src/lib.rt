@@ -40,7 +40,7 @@ pub struct Places {
     pub second: usize,
 }
 
-// A number that no partition can have is as good as 0 here: the command is then refused whatever stands there.
+// A number that no partition can have is as good as 0 here: what stands there is then not looked at.
 fn place(n: u32) -> usize
     ensures { λ r. ⌜ (r ≡ fitted n) × (r < maxPartitions) ⌝ }
 {
