@@ -17,7 +17,8 @@ use Rattle.tables.specs.declared.Partition.{Partition}
 use Rattle.tables.specs.declared.Tables.{Tables}
 use Rattle.answers.specs.Called.{Ready, acceptedWith, called, refusedWith, stored}
 use Rattle.answers.specs.declared.Answered.{Answered}
-use Rattle.faults.specs.Lost.{Crash, Cut, emptiesOf, relapsesOf}
+use Rattle.losses.specs.Lost.{emptiesOf, relapsesOf}
+use Rattle.losses.specs.declared.Loss.the-variants.{Crash, Cut}
 use Rattle.lists.proofs.Tests.{and-right, both-true}
 use Rattle.protocol.proofs.Losses.{count-lose}
 use Rattle.tables.proofs.Packs.{view-pack}

@@ -1,2 +1,1 @@
-pub mod Loses
 pub mod Faulty

@@ -8,7 +8,6 @@ ghost use Rattle.protocol.specs.Faults.{crash, cut, recover};
 ghost use Rattle.tables.specs.View.{partitionAt, view};
 ghost use Rattle.answers.specs.Called.{Ready, stored};
 ghost use Rattle.answers.specs.Change.{Applies, applied};
-use crate::losses::Loss;
 use answers::Answered;
 use answers::accepted;
 use answers::changes::Change;
@@ -17,14 +16,13 @@ use answers::changes::changes;
 use answers::changes::keeps;
 use answers::is_there;
 use answers::refused;
+use losses::Loss;
 use protocol::Refusal;
 use protocol::Reply;
 use tables::MAX_PARTITIONS;
 use tables::Partition;
 use tables::Tables;
 use tables::stores;
-
-mod losses;
 
 // ---- cut
 

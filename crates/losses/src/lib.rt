@@ -1,0 +1,195 @@
+// What a cut or a crash loses: records that relapse to ready, and queues that empty (document 01, 'The nine events', 6 and 7).
+ghost use mathlib.Core.Bool.{_&&_};
+ghost use mathlib.Core.List.{map};
+ghost use mathlib.Core.Path.{_≡_};
+ghost use Prim.Native.Nat.{_<_, _≤_};
+ghost use lib.Dec.{eqb};
+ghost use Rattle.lists.specs.Lists.{mapFrom, mapIf, pad, pick};
+ghost use Rattle.protocol.specs.Bounds.{maxPartitions, maxRecords};
+ghost use Rattle.protocol.specs.Elements.{isSent};
+ghost use Rattle.protocol.specs.Faults.{between, drained, fallsWith, lose, relapsed, sentBetween, touches};
+ghost use Rattle.protocol.specs.Tables.{inStage};
+ghost use Rattle.protocol.specs.declared.Stage.the-variants.{Ready as ReadyStage};
+ghost use Rattle.tables.specs.View.{pack, packPartition, packQueue, packRecords, recordsOf, view, viewPartition, zeroPartition};
+ghost use Rattle.answers.specs.Called.{Ready};
+ghost use Rattle.losses.specs.Lost.{emptiesOf, relapsesOf};
+use protocol::Record;
+use protocol::Stage;
+use tables::MAX_PARTITIONS;
+use tables::Partition;
+use tables::QUEUES;
+use tables::Queue;
+use tables::Records;
+use tables::Tables;
+use tables::elements;
+use tables::fresh;
+
+// What is lost: all between two partitions that are cut off from each other, or all of one that crashes.
+pub enum Loss {
+    Cut(usize, usize),
+    Crash(usize),
+}
+
+// ---- which queues empty, and which records relapse
+
+pub fn is_pair(s: usize, r: usize, a: usize, b: usize) -> bool
+    ensures { λ x. ⌜ x ≡ (eqb s a && eqb r b) ⌝ }
+{
+    if s == a {} else {
+        return false;
+    }
+    r == b
+}
+
+pub fn between(a: usize, b: usize, s: usize, r: usize) -> bool
+    ensures { λ x. ⌜ x ≡ between a b s r ⌝ }
+{
+    if is_pair(s, r, a, b) {
+        return true;
+    }
+    is_pair(s, r, b, a)
+}
+
+pub fn touches(p: usize, s: usize, r: usize) -> bool
+    ensures { λ x. ⌜ x ≡ touches p s r ⌝ }
+{
+    if s == p {
+        return true;
+    }
+    r == p
+}
+
+// Whether the queue from s to r empties.
+pub fn empties(loss: Loss, s: usize, r: usize) -> bool
+    ensures { λ x. ⌜ x ≡ emptiesOf loss s r ⌝ }
+{
+    match loss {
+        Loss::Cut(a, b) => between(a, b, s, r),
+        Loss::Crash(p) => touches(p, s, r),
+    }
+}
+
+pub fn sent_between(a: usize, b: usize, p: usize, r: Record) -> bool
+    ensures { λ x. ⌜ x ≡ sentBetween a b p r ⌝ }
+{
+    let stage = r.stage;
+    if elements::is_sent(stage) {} else {
+        return false;
+    }
+    between(a, b, p, r.partition as usize)
+}
+
+pub fn sent_to(p: usize, r: Record) -> bool
+    ensures { λ x. ⌜ x ≡ (isSent (r .stage) && eqb (r .partition) p) ⌝ }
+{
+    let stage = r.stage;
+    if elements::is_sent(stage) {} else {
+        return false;
+    }
+    r.partition as usize == p
+}
+
+pub fn falls_with(p: usize, q: usize, r: Record) -> bool
+    ensures { λ x. ⌜ x ≡ fallsWith p q r ⌝ }
+{
+    if q == p {
+        return true;
+    }
+    sent_to(p, r)
+}
+
+// Whether partition p's record r relapses.
+pub fn relapses(loss: Loss, p: usize, r: Record) -> bool
+    ensures { λ x. ⌜ x ≡ relapsesOf loss p r ⌝ }
+{
+    match loss {
+        Loss::Cut(a, b) => sent_between(a, b, p, r),
+        Loss::Crash(q) => falls_with(q, p, r),
+    }
+}
+
+// ---- the losses
+
+// Partition p's record r, after the loss.
+pub fn record_after(loss: Loss, p: usize, r: Record) -> Record
+    ensures { λ x. ⌜ x ≡ pick (relapsesOf loss p r) (inStage ReadyStage r) r ⌝ }
+{
+    if relapses(loss, p, r) {} else {
+        return r;
+    }
+    advances::in_stage(Stage::Ready, r)
+}
+
+pub fn relapse_records(loss: Loss, p: usize, l: Records) -> Records
+    requires { ⌜ (packRecords (recordsOf l) ≡ l) × (l .count ≤ maxRecords) ⌝ }
+    ensures { λ x. ⌜ x ≡ packRecords (mapIf (relapsesOf loss p) (inStage ReadyStage) (recordsOf l)) ⌝ }
+{
+    let count = l.count;
+    let mut items = l.items;
+    let mut i: usize = 0;
+    while i < count {
+        let item = l.items[i];
+        let after = record_after(loss, p, item);
+        items[i] = after;
+        i += 1;
+    }
+    Records {
+        count: count,
+        items: items,
+    }
+}
+
+pub fn relapse_partition(loss: Loss, p: usize, x: Partition) -> Partition
+    requires { ⌜ (packPartition (viewPartition x) ≡ x) × (x .records .count ≤ maxRecords) ⌝ }
+    ensures { λ y. ⌜ y ≡ packPartition (relapsed (relapsesOf loss) p (viewPartition x)) ⌝ }
+{
+    let records = x.records;
+    let mut next = x;
+    next.records = relapse_records(loss, p, records);
+    next
+}
+
+pub fn relapse(loss: Loss, t: Tables) -> [Partition; MAX_PARTITIONS]
+    requires { ⌜ Ready t × (t .count ≤ maxPartitions) ⌝ }
+    ensures { λ l. ⌜ l ≡ pad maxPartitions zeroPartition (map packPartition (mapFrom (relapsed (relapsesOf loss)) 0 (view t .partitions))) ⌝ }
+{
+    let count = t.count;
+    let mut partitions = t.partitions;
+    let mut i: usize = 0;
+    while i < count {
+        let x = t.partitions[i];
+        let after = relapse_partition(loss, i, x);
+        partitions[i] = after;
+        i += 1;
+    }
+    partitions
+}
+
+pub fn drain(loss: Loss, t: Tables) -> [Queue; QUEUES]
+    requires { ⌜ Ready t ⌝ }
+    ensures { λ l. ⌜ l ≡ map packQueue (mapFrom (drained (emptiesOf loss)) 0 (view t .queues)) ⌝ }
+{
+    let none = fresh::no_messages();
+    let mut queues = t.queues;
+    let mut i: usize = 0;
+    while i < QUEUES {
+        if empties(loss, i / MAX_PARTITIONS, i % MAX_PARTITIONS) {
+            queues[i] = none;
+        }
+        i += 1;
+    }
+    queues
+}
+
+pub fn lose(loss: Loss, t: Tables) -> Tables
+    requires { ⌜ Ready t ⌝ }
+    ensures { λ u. ⌜ u ≡ pack (lose (relapsesOf loss) (emptiesOf loss) (view t)) ⌝ }
+{
+    let partitions = relapse(loss, t);
+    let queues = drain(loss, t);
+    Tables {
+        count: t.count,
+        partitions: partitions,
+        queues: queues,
+    }
+}
