@@ -21,7 +21,9 @@ use Rattle.tables.specs.declared.Tables.{Tables}
 use Rattle.tables.proofs.Packs.{pack-view, view-pack}
 use Rattle.tables.proofs.Shapes.{order-shaped}
 use Rattle.answers.specs.Called.{Ready}
-use Rattle.settle.specs.Settled.{Counts, Settled, Step, settled, settledOn, stepOf}
+use Rattle.steps.specs.Stepped.{stepOf}
+use Rattle.steps.specs.declared.Step.{Step}
+use Rattle.settle.specs.Settled.{Counts, Settled, settled, settledOn}
 
 -- ---- tables in order, stored
 

@@ -5,19 +5,10 @@ ghost use Rattle.protocol.specs.Settle.{zeroTally};
 ghost use Rattle.settle.specs.Settled.{reported, settled};
 use answers::Answered;
 use protocol::Refusal;
-use protocol::Reply;
 use protocol::Tally;
 use tables::Tables;
 
 pub mod run; // steps until none is accepted, counted
-mod steps; // the first accepted step
-
-// What a settling step gives: whether one was accepted, its reply, and the tables after it.
-pub struct Step {
-    pub moved: bool,
-    pub reply: Reply,
-    pub tables: Tables,
-}
 
 // What a settling run gives.
 pub struct Settled {

@@ -9,7 +9,6 @@ ghost use Rattle.tables.specs.View.{view};
 ghost use Rattle.answers.specs.Called.{Ready};
 ghost use Rattle.settle.specs.Settled.{Counts, reported, settled, settledOn};
 use crate::Settled;
-use crate::steps;
 use answers::Answered;
 use protocol::Answer;
 use protocol::Refusal;

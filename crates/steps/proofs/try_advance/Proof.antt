@@ -1,9 +1,9 @@
-use Rattle.settle.proofs.Tried.{tries}
+use Rattle.steps.proofs.Tries.{tries}
 use Rattle.tables.proofs.Known.{sized}
 use borrow.Author.Needs.{needs}
-use Rattle.settle.proofs.steps.try_advance.Statement.{statement}
-use Rattle.settle.proofs.steps.try_advance.Tie as tie
-use Rattle.settle.proofs.steps.tried.Reads as tried-reads
+use Rattle.steps.proofs.try_advance.Statement.{statement}
+use Rattle.steps.proofs.try_advance.Tie as tie
+use Rattle.steps.proofs.tried.Reads as tried-reads
 
 advance-there-requires : tie.Need-advance-there-requires
 advance-there-requires c κs = search (tries, sized, needs)

@@ -1,9 +1,9 @@
-use Rattle.settle.proofs.Tried.{tries}
+use Rattle.steps.proofs.Tries.{tries}
 use Rattle.tables.proofs.Known.{sized}
 use borrow.Author.Needs.{needs}
-use Rattle.settle.proofs.steps.take_delivery.Statement.{statement}
-use Rattle.settle.proofs.steps.take_delivery.Tie as tie
-use Rattle.settle.proofs.steps.tried.Reads as tried-reads
+use Rattle.steps.proofs.take_delivery.Statement.{statement}
+use Rattle.steps.proofs.take_delivery.Tie as tie
+use Rattle.steps.proofs.tried.Reads as tried-reads
 
 deliver-there-requires : tie.Need-deliver-there-requires
 deliver-there-requires c κs = search (tries, sized, needs)

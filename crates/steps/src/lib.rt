@@ -9,13 +9,19 @@ ghost use Rattle.protocol.specs.Events.{Advancing, Delivering, bare};
 ghost use Rattle.protocol.specs.Settle.{advances, candidates, deliveries, firstAccepted};
 ghost use Rattle.tables.specs.View.{view};
 ghost use Rattle.answers.specs.Called.{Ready};
-ghost use Rattle.settle.specs.Settled.{LogOf, advancesOf, deliveriesFrom, stayed, stepOf, tried};
-use crate::Step;
+ghost use Rattle.steps.specs.Stepped.{LogOf, advancesOf, deliveriesFrom, stayed, stepOf, tried};
 use answers::Answered;
 use answers::queues;
 use protocol::Reply;
 use tables::Records;
 use tables::Tables;
+
+// What a settling step gives: whether one was accepted, its reply, and the tables after it.
+pub struct Step {
+    pub moved: bool,
+    pub reply: Reply,
+    pub tables: Tables,
+}
 
 fn stay(t: Tables) -> Step
     ensures { λ s. ⌜ s ≡ stayed t ⌝ }

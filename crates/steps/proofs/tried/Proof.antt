@@ -1,10 +1,10 @@
-use Rattle.settle.proofs.Tried.{tries}
+use Rattle.steps.proofs.Tries.{tries}
 use Rattle.tables.proofs.Known.{sized}
 use borrow.Author.Needs.{needs}
-use Rattle.settle.proofs.steps.tried.Statement.{statement}
-use Rattle.settle.proofs.steps.tried.Tie as tie
+use Rattle.steps.proofs.tried.Statement.{statement}
+use Rattle.steps.proofs.tried.Tie as tie
 use Rattle.numbers.proofs.accepted.Reads as accepted-reads
-use Rattle.settle.proofs.steps.stay.Reads as stay-reads
+use Rattle.steps.proofs.stay.Reads as stay-reads
 
 accepted-requires : tie.Need-accepted-requires
 accepted-requires c κs = search (tries, sized, needs)

@@ -1,10 +1,10 @@
 use Prim.Native.Nat.{_-_, _≤_}
-use Rattle.settle.proofs.Tried.{Trying, log-tries, logged}
+use Rattle.steps.proofs.Tries.{Trying, log-tries, logged}
 use Rattle.tables.proofs.Known.{sized}
 use borrow.Author.Needs.{needs}
-use Rattle.settle.proofs.steps.first_advance_among.Statement.{statement}
-use Rattle.settle.proofs.steps.first_advance_among.Tie as tie
-use Rattle.settle.proofs.steps.stay.Reads as stay-reads
+use Rattle.steps.proofs.first_advance_among.Statement.{statement}
+use Rattle.steps.proofs.first_advance_among.Tie as tie
+use Rattle.steps.proofs.stay.Reads as stay-reads
 
 abbrev Inv-loop : tie.InvT-loop
 Inv-loop t p l i₀ i = (i ≤ l .count) × Trying t (logged p l) i

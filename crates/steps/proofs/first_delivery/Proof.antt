@@ -1,12 +1,12 @@
 use Prim.Native.Nat.{_-_, _≤_}
-use Rattle.settle.proofs.Tried.{Trying, all-tries}
-use Rattle.settle.specs.Settled.{deliveriesFrom}
+use Rattle.steps.proofs.Tries.{Trying, all-tries}
+use Rattle.steps.specs.Stepped.{deliveriesFrom}
 use Rattle.tables.specs.View.{view}
 use Rattle.tables.proofs.Known.{sized}
 use borrow.Author.Needs.{needs}
-use Rattle.settle.proofs.steps.first_delivery.Statement.{statement}
-use Rattle.settle.proofs.steps.first_delivery.Tie as tie
-use Rattle.settle.proofs.steps.stay.Reads as stay-reads
+use Rattle.steps.proofs.first_delivery.Statement.{statement}
+use Rattle.steps.proofs.first_delivery.Tie as tie
+use Rattle.steps.proofs.stay.Reads as stay-reads
 
 abbrev Inv-loop : tie.InvT-loop
 Inv-loop t s₀ s = (s ≤ t .count) × Trying t (deliveriesFrom (view t)) s

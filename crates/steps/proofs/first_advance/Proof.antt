@@ -1,12 +1,12 @@
 use Prim.Native.Nat.{_-_, _≤_}
 use Rattle.tables.specs.View.{view}
-use Rattle.settle.specs.Settled.{advancesOf}
-use Rattle.settle.proofs.Tried.{Trying, all-tries}
+use Rattle.steps.specs.Stepped.{advancesOf}
+use Rattle.steps.proofs.Tries.{Trying, all-tries}
 use Rattle.tables.proofs.Known.{sized}
 use borrow.Author.Needs.{needs}
-use Rattle.settle.proofs.steps.first_advance.Statement.{statement}
-use Rattle.settle.proofs.steps.first_advance.Tie as tie
-use Rattle.settle.proofs.steps.stay.Reads as stay-reads
+use Rattle.steps.proofs.first_advance.Statement.{statement}
+use Rattle.steps.proofs.first_advance.Tie as tie
+use Rattle.steps.proofs.stay.Reads as stay-reads
 
 abbrev Inv-loop : tie.InvT-loop
 Inv-loop t p₀ p = (p ≤ t .count) × Trying t (advancesOf (view t)) p

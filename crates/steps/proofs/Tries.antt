@@ -32,8 +32,8 @@ use Rattle.answers.proofs.Ways.{read-count, read-four, read-records, read-up, r
 use Rattle.lists.proofs.Tidies.{tidy-fits}
 use Rattle.tables.proofs.Packs.{shaped-all}
 use Rattle.tables.proofs.Views.{queue-view}
-use Rattle.settle.specs.Settled.{LogOf, Step, advancesOf, deliveriesFrom, stayed, stepOf, tried}
-use Rattle.settle.proofs.First.{each-found, each-missed, each-none, first-kept, first-one, first-past, first-refused, map-each}
+use Rattle.steps.specs.Stepped.{LogOf, Step, advancesOf, deliveriesFrom, stayed, stepOf, tried}
+use Rattle.steps.proofs.First.{each-found, each-missed, each-none, first-kept, first-one, first-past, first-refused, map-each}
 
 -- ---- one candidate
 

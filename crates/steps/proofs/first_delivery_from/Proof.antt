@@ -1,11 +1,11 @@
 use Prim.Native.Nat.{_-_, _≤_}
-use Rattle.settle.proofs.Tried.{Trying, all-tries, receivers}
+use Rattle.steps.proofs.Tries.{Trying, all-tries, receivers}
 use Rattle.tables.proofs.Known.{sized}
 use borrow.Author.Needs.{needs}
-use Rattle.settle.proofs.steps.first_delivery_from.Statement.{statement}
-use Rattle.settle.proofs.steps.first_delivery_from.Tie as tie
-use Rattle.settle.proofs.steps.awaits.Reads as awaits-reads
-use Rattle.settle.proofs.steps.stay.Reads as stay-reads
+use Rattle.steps.proofs.first_delivery_from.Statement.{statement}
+use Rattle.steps.proofs.first_delivery_from.Tie as tie
+use Rattle.steps.proofs.awaits.Reads as awaits-reads
+use Rattle.steps.proofs.stay.Reads as stay-reads
 
 abbrev Inv-loop : tie.InvT-loop
 Inv-loop t s r₀ r = (r ≤ t .count) × Trying t (receivers s) r

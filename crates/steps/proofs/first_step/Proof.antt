@@ -1,8 +1,8 @@
-use Rattle.settle.proofs.Tried.{step-tries}
+use Rattle.steps.proofs.Tries.{step-tries}
 use Rattle.tables.proofs.Known.{sized}
 use borrow.Author.Needs.{needs}
-use Rattle.settle.proofs.steps.first_step.Statement.{statement}
-use Rattle.settle.proofs.steps.first_step.Tie as tie
+use Rattle.steps.proofs.first_step.Statement.{statement}
+use Rattle.steps.proofs.first_step.Tie as tie
 
 first-advance-requires : tie.Need-first-advance-requires
 first-advance-requires c κs = search (step-tries, sized, needs)

@@ -1,8 +1,8 @@
-use Rattle.settle.proofs.Tried.{awaitings}
+use Rattle.steps.proofs.Tries.{awaitings}
 use Rattle.tables.proofs.Known.{sized}
 use borrow.Author.Needs.{needs}
-use Rattle.settle.proofs.steps.awaits.Statement.{statement}
-use Rattle.settle.proofs.steps.awaits.Tie as tie
+use Rattle.steps.proofs.awaits.Statement.{statement}
+use Rattle.steps.proofs.awaits.Tie as tie
 use Rattle.answers.proofs.queues.queue.Reads as queue-reads
 
 mul-y : tie.Need-mul-y

@@ -1,9 +1,9 @@
-use Rattle.settle.proofs.Tried.{log-read}
+use Rattle.steps.proofs.Tries.{log-read}
 use Rattle.tables.proofs.Known.{sized}
 use mathlib.Core.Path.{refl}
 use borrow.Author.Needs.{needs}
-use Rattle.settle.proofs.steps.first_advance_of.Statement.{statement}
-use Rattle.settle.proofs.steps.first_advance_of.Tie as tie
+use Rattle.steps.proofs.first_advance_of.Statement.{statement}
+use Rattle.steps.proofs.first_advance_of.Tie as tie
 
 mul-x : tie.Need-mul-x
 mul-x c = search (log-read, sized, needs)
