@@ -44,7 +44,7 @@ use Rattle.protocol.proofs.Numbers.{part-queue}
 use Rattle.tables.proofs.Stored.{backpointers-stored, packed-messages, records-stored, stored-queue}
 use Rattle.tables.proofs.Views.{partition-there, queue-view, queues-view}
 use Rattle.answers.proofs.Applied.{backpointers-exchange, exchanged-applies, messages-exchange, records-exchange}
-use Rattle.deliveries.proofs.Verdicts.{adds-below}
+use Rattle.verdicts.proofs.Verdicts.{adds-below}
 
 -- ---- a list without what a request to remove is about
 

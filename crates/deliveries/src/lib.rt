@@ -39,8 +39,6 @@ use tables::Tables;
 use tables::reads;
 use tables::writes;
 
-mod verdict;
-
 // What is received gives a change of the tables t, in which the message x still stands in the queue. Each layer is handed own,
 // partition r there: one that read it would copy all of t.
 
@@ -159,7 +157,7 @@ fn answer(t: Tables, own: Partition, s: usize, r: usize, x: Message) -> Change
 {
     let backpointers = own.backpointers;
     let parent = number_of(s);
-    let v = verdict::verdict(backpointers, parent, x);
+    let v = verdicts::verdict(backpointers, parent, x);
     carry_out(t, own, s, r, x, v)
 }
 

@@ -1,8 +1,8 @@
-use Rattle.deliveries.proofs.Verdicts.{full-read}
+use Rattle.verdicts.proofs.Verdicts.{full-read}
 use Rattle.tables.proofs.Known.{backpointers-fit}
 use borrow.Author.Needs.{needs}
-use Rattle.deliveries.proofs.verdict.is_full.Statement.{statement}
-use Rattle.deliveries.proofs.verdict.is_full.Tie as tie
+use Rattle.verdicts.proofs.is_full.Statement.{statement}
+use Rattle.verdicts.proofs.is_full.Tie as tie
 
 returns : tie.Need-returns
 returns c = search (full-read, backpointers-fit, needs)

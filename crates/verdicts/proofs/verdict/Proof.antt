@@ -1,7 +1,7 @@
-use Rattle.deliveries.proofs.Verdicts.{verdicts}
+use Rattle.verdicts.proofs.Verdicts.{verdicts}
 use borrow.Author.Needs.{needs}
-use Rattle.deliveries.proofs.verdict.verdict.Statement.{statement}
-use Rattle.deliveries.proofs.verdict.verdict.Tie as tie
+use Rattle.verdicts.proofs.verdict.Statement.{statement}
+use Rattle.verdicts.proofs.verdict.Tie as tie
 
 enum-told : tie.Need-enum-told
 enum-told c = search (verdicts, needs)

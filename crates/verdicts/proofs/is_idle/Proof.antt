@@ -1,8 +1,8 @@
 use Rattle.lists.proofs.Finds.{found-none, found-some}
 use borrow.Author.Needs.{needs}
-use Rattle.deliveries.proofs.verdict.is_idle.Statement.{statement}
-use Rattle.deliveries.proofs.verdict.is_idle.Tie as tie
-use Rattle.deliveries.proofs.verdict.is_idle.Reads as reads
+use Rattle.verdicts.proofs.is_idle.Statement.{statement}
+use Rattle.verdicts.proofs.is_idle.Tie as tie
+use Rattle.verdicts.proofs.is_idle.Reads as reads
 
 find-object-requires : tie.Need-find-object-requires
 find-object-requires c κs = search (found-none, found-some, needs)

@@ -1,8 +1,8 @@
-use Rattle.deliveries.proofs.Verdicts.{exacts}
+use Rattle.verdicts.proofs.Verdicts.{exacts}
 use borrow.Author.Needs.{needs}
-use Rattle.deliveries.proofs.verdict.to_remove.Statement.{statement}
-use Rattle.deliveries.proofs.verdict.to_remove.Tie as tie
-use Rattle.deliveries.proofs.verdict.to_remove.Reads as reads
+use Rattle.verdicts.proofs.to_remove.Statement.{statement}
+use Rattle.verdicts.proofs.to_remove.Tie as tie
+use Rattle.verdicts.proofs.to_remove.Reads as reads
 
 find-exactly-requires : tie.Need-find-exactly-requires
 find-exactly-requires c κs = search (exacts, needs)

@@ -1,7 +1,7 @@
 use Rattle.lists.proofs.Picks.{picks}
 use borrow.Author.Needs.{needs}
-use Rattle.deliveries.proofs.verdict.held_verdict.Statement.{statement}
-use Rattle.deliveries.proofs.verdict.held_verdict.Tie as tie
+use Rattle.verdicts.proofs.held_verdict.Statement.{statement}
+use Rattle.verdicts.proofs.held_verdict.Tie as tie
 
 bears-requires : tie.Need-bears-requires
 bears-requires c κs = search (picks, needs)

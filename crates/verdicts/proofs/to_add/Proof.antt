@@ -1,9 +1,9 @@
-use Rattle.deliveries.proofs.Verdicts.{places}
+use Rattle.verdicts.proofs.Verdicts.{places}
 use Rattle.lists.proofs.Finds.{found-below, found-in, found-fits}
 use borrow.Author.Needs.{needs}
-use Rattle.deliveries.proofs.verdict.to_add.Statement.{statement}
-use Rattle.deliveries.proofs.verdict.to_add.Tie as tie
-use Rattle.deliveries.proofs.verdict.to_add.Reads as reads
+use Rattle.verdicts.proofs.to_add.Statement.{statement}
+use Rattle.verdicts.proofs.to_add.Tie as tie
+use Rattle.verdicts.proofs.to_add.Reads as reads
 
 find-place-requires : tie.Need-find-place-requires
 find-place-requires c κs = search (places, found-below, found-in, found-fits, needs)

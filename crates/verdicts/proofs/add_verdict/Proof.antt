@@ -1,7 +1,7 @@
-use Rattle.deliveries.proofs.Verdicts.{additions}
+use Rattle.verdicts.proofs.Verdicts.{additions}
 use borrow.Author.Needs.{needs}
-use Rattle.deliveries.proofs.verdict.add_verdict.Statement.{statement}
-use Rattle.deliveries.proofs.verdict.add_verdict.Tie as tie
+use Rattle.verdicts.proofs.add_verdict.Statement.{statement}
+use Rattle.verdicts.proofs.add_verdict.Tie as tie
 
 is-idle-requires : tie.Need-is-idle-requires
 is-idle-requires c κs = search (additions, needs)
