@@ -20,13 +20,14 @@ use Rattle.settle.specs.Settled.{settled}
 use Rattle.settle.specs.declared.Settled.{Settled}
 use Rattle.rehearsal.specs.Answers.{squareOf, stored}
 use Rattle.rehearsal.specs.declared.Numbers.{Numbers}
-use Rattle.sessions.specs.Counts.{Sums, lengths, sumsOf}
+use Rattle.counts.specs.Counts.{lengths, sumsOf}
+use Rattle.counts.specs.declared.Sums.{Sums}
 use Rattle.rehearsal.specs.declared.Command.{Command}
 use Rattle.rehearsal.specs.declared.Verb.{Verb}
 use Rattle.rehearsal.specs.declared.Verb.the-variants.{Square, Totals}
 use Rattle.rehearsal.specs.Rehearsal.{answerNumbers, argument, isOpen}
 use Rattle.sessions.specs.Session.{Response, Session, afterEvent, afterOpen, afterSettle, holding, notRead, openedBy, responded, respondedTo}
-use Rattle.sessions.proofs.Counting.{square-counted}
+use Rattle.counts.proofs.Counting.{square-counted}
 
 -- ---- what was answered: x and u are the answer and the tables that were read off it
 

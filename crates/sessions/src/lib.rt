@@ -15,8 +15,6 @@ use rehearsal::answer;
 use settle::run;
 use tables::Tables;
 
-pub mod counts;
-
 // Between two lines. Before the first accepted `P` it is not open, and its tables are nobody's.
 pub struct Session {
     pub open: bool,

@@ -1,8 +1,8 @@
-use Rattle.sessions.proofs.Counting.{lengths-are}
+use Rattle.counts.proofs.Counting.{lengths-are}
 use Rattle.tables.proofs.Known.{sized}
 use borrow.Author.Needs.{needs}
-use Rattle.sessions.proofs.counts.lengths_of.Statement.{statement}
-use Rattle.sessions.proofs.counts.lengths_of.Tie as tie
+use Rattle.counts.proofs.lengths_of.Statement.{statement}
+use Rattle.counts.proofs.lengths_of.Tie as tie
 
 row-of-requires : tie.Need-row-of-requires
 row-of-requires c κs = search needs

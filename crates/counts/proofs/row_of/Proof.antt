@@ -1,7 +1,7 @@
-use Rattle.sessions.specs.Counts.{lengthsFrom}
+use Rattle.counts.specs.Counts.{lengthsFrom}
 use borrow.Author.Needs.{needs}
-use Rattle.sessions.proofs.counts.row_of.Statement.{statement}
-use Rattle.sessions.proofs.counts.row_of.Tie as tie
+use Rattle.counts.proofs.row_of.Statement.{statement}
+use Rattle.counts.proofs.row_of.Tie as tie
 
 mul-at : tie.Need-mul-at
 mul-at c = search needs

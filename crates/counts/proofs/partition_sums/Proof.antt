@@ -1,9 +1,9 @@
-use Rattle.sessions.proofs.Counting.{Summing, summing}
+use Rattle.counts.proofs.Counting.{Summing, summing}
 use Prim.Native.Nat.{_-_, _≤_}
 use Rattle.tables.proofs.Known.{sized}
 use borrow.Author.Needs.{needs}
-use Rattle.sessions.proofs.counts.partition_sums.Statement.{statement}
-use Rattle.sessions.proofs.counts.partition_sums.Tie as tie
+use Rattle.counts.proofs.partition_sums.Statement.{statement}
+use Rattle.counts.proofs.partition_sums.Tie as tie
 
 abbrev Inv-loop : tie.InvT-loop
 Inv-loop t side sums₀ i₀ sums i = (i ≤ side) × Summing t sums i

@@ -5,7 +5,7 @@ ghost use Prim.Native.Nat.{_<_, _≤_, min};
 ghost use Rattle.protocol.specs.Bounds.{maxMessages, maxPartitions};
 ghost use Rattle.protocol.specs.Tables.{totals};
 ghost use Rattle.tables.specs.View.{view};
-ghost use Rattle.sessions.specs.Counts.{Small, lengths, lengthsFrom, noSums, partitionSums, plusPartition, sumsOf};
+ghost use Rattle.counts.specs.Counts.{Small, lengths, lengthsFrom, noSums, partitionSums, plusPartition, sumsOf};
 use rehearsal::SIDE;
 use rehearsal::answer::at_most;
 use tables::MAX_BACKPOINTERS;

@@ -9,7 +9,7 @@ use Rattle.tables.specs.View.{queueAt}
 use Rattle.tables.specs.declared.Partition.{Partition}
 use Rattle.tables.specs.declared.Tables.{Tables}
 use Rattle.rehearsal.specs.Answers.{row}
-pub use Rattle.sessions.specs.declared.counts.Sums.{Sums}
+pub use Rattle.counts.specs.declared.Sums.{Sums}
 
 -- "entries, back-pointers, records, messages over all"
 abbrev pub sumsOf : Totals → Sums

@@ -1,6 +1,6 @@
 use borrow.Author.Needs.{needs}
-use Rattle.sessions.proofs.counts.plus_partition.Statement.{statement}
-use Rattle.sessions.proofs.counts.plus_partition.Tie as tie
+use Rattle.counts.proofs.plus_partition.Statement.{statement}
+use Rattle.counts.proofs.plus_partition.Tie as tie
 
 at-most-requires : tie.Need-at-most-requires
 at-most-requires c κs = search needs

@@ -1,7 +1,7 @@
-use Rattle.sessions.proofs.Counting.{totals-are}
+use Rattle.counts.proofs.Counting.{totals-are}
 use borrow.Author.Needs.{needs}
-use Rattle.sessions.proofs.counts.totals_of.Statement.{statement}
-use Rattle.sessions.proofs.counts.totals_of.Tie as tie
+use Rattle.counts.proofs.totals_of.Statement.{statement}
+use Rattle.counts.proofs.totals_of.Tie as tie
 
 partition-sums-requires : tie.Need-partition-sums-requires
 partition-sums-requires c κs = search needs

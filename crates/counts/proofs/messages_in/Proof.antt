@@ -1,10 +1,10 @@
-use Rattle.sessions.proofs.Counting.{Mailing, mailing}
+use Rattle.counts.proofs.Counting.{Mailing, mailing}
 use Rattle.protocol.specs.Bounds.{maxMessages, queueCount}
 use Prim.Native.Nat.{_*_, _-_, _≤_}
 use Rattle.tables.proofs.Known.{sized}
 use borrow.Author.Needs.{needs}
-use Rattle.sessions.proofs.counts.messages_in.Statement.{statement}
-use Rattle.sessions.proofs.counts.messages_in.Tie as tie
+use Rattle.counts.proofs.messages_in.Statement.{statement}
+use Rattle.counts.proofs.messages_in.Tie as tie
 
 abbrev Inv-loop : tie.InvT-loop
 Inv-loop t sum₀ i₀ sum i = (i ≤ queueCount) × (sum ≤ i * maxMessages) × Mailing t sum i

@@ -19,7 +19,7 @@ use Rattle.tables.specs.declared.Partition.{Partition}
 use Rattle.tables.specs.declared.Tables.{Tables}
 use Rattle.tables.proofs.Views.{partition-there, queues-view}
 use Rattle.rehearsal.specs.Answers.{row, rows, squareOf}
-use Rattle.sessions.specs.Counts.{Small, Sums, lengthAt, lengths, lengthsFrom, noSums, partitionSums, plusPartition, sumsOf}
+use Rattle.counts.specs.Counts.{Small, Sums, lengthAt, lengths, lengthsFrom, noSums, partitionSums, plusPartition, sumsOf}
 use Rattle.rehearsal.specs.Rehearsal.{square}
 use Rattle.rehearsal.proofs.Squares.{each-length}
 
