@@ -32,7 +32,7 @@ pub enum Loss {
 
 // ---- which queues empty, and which records relapse
 
-pub fn is_pair(s: usize, r: usize, a: usize, b: usize) -> bool
+fn is_pair(s: usize, r: usize, a: usize, b: usize) -> bool
     ensures { λ x. ⌜ x ≡ (eqb s a && eqb r b) ⌝ }
 {
     if s == a {} else {
@@ -41,7 +41,7 @@ pub fn is_pair(s: usize, r: usize, a: usize, b: usize) -> bool
     r == b
 }
 
-pub fn between(a: usize, b: usize, s: usize, r: usize) -> bool
+fn between(a: usize, b: usize, s: usize, r: usize) -> bool
     ensures { λ x. ⌜ x ≡ between a b s r ⌝ }
 {
     if is_pair(s, r, a, b) {
@@ -50,7 +50,7 @@ pub fn between(a: usize, b: usize, s: usize, r: usize) -> bool
     is_pair(s, r, b, a)
 }
 
-pub fn touches(p: usize, s: usize, r: usize) -> bool
+fn touches(p: usize, s: usize, r: usize) -> bool
     ensures { λ x. ⌜ x ≡ touches p s r ⌝ }
 {
     if s == p {
@@ -60,7 +60,7 @@ pub fn touches(p: usize, s: usize, r: usize) -> bool
 }
 
 // Whether the queue from s to r empties.
-pub fn empties(loss: Loss, s: usize, r: usize) -> bool
+fn empties(loss: Loss, s: usize, r: usize) -> bool
     ensures { λ x. ⌜ x ≡ emptiesOf loss s r ⌝ }
 {
     match loss {
@@ -69,7 +69,7 @@ pub fn empties(loss: Loss, s: usize, r: usize) -> bool
     }
 }
 
-pub fn sent_between(a: usize, b: usize, p: usize, r: Record) -> bool
+fn sent_between(a: usize, b: usize, p: usize, r: Record) -> bool
     ensures { λ x. ⌜ x ≡ sentBetween a b p r ⌝ }
 {
     let stage = r.stage;
@@ -79,7 +79,7 @@ pub fn sent_between(a: usize, b: usize, p: usize, r: Record) -> bool
     between(a, b, p, r.partition as usize)
 }
 
-pub fn sent_to(p: usize, r: Record) -> bool
+fn sent_to(p: usize, r: Record) -> bool
     ensures { λ x. ⌜ x ≡ (isSent (r .stage) && eqb (r .partition) p) ⌝ }
 {
     let stage = r.stage;
@@ -89,7 +89,7 @@ pub fn sent_to(p: usize, r: Record) -> bool
     r.partition as usize == p
 }
 
-pub fn falls_with(p: usize, q: usize, r: Record) -> bool
+fn falls_with(p: usize, q: usize, r: Record) -> bool
     ensures { λ x. ⌜ x ≡ fallsWith p q r ⌝ }
 {
     if q == p {
@@ -99,7 +99,7 @@ pub fn falls_with(p: usize, q: usize, r: Record) -> bool
 }
 
 // Whether partition p's record r relapses.
-pub fn relapses(loss: Loss, p: usize, r: Record) -> bool
+fn relapses(loss: Loss, p: usize, r: Record) -> bool
     ensures { λ x. ⌜ x ≡ relapsesOf loss p r ⌝ }
 {
     match loss {
@@ -111,7 +111,7 @@ pub fn relapses(loss: Loss, p: usize, r: Record) -> bool
 // ---- the losses
 
 // Partition p's record r, after the loss.
-pub fn record_after(loss: Loss, p: usize, r: Record) -> Record
+fn record_after(loss: Loss, p: usize, r: Record) -> Record
     ensures { λ x. ⌜ x ≡ pick (relapsesOf loss p r) (inStage ReadyStage r) r ⌝ }
 {
     if relapses(loss, p, r) {} else {
@@ -120,7 +120,7 @@ pub fn record_after(loss: Loss, p: usize, r: Record) -> Record
     advances::in_stage(Stage::Ready, r)
 }
 
-pub fn relapse_records(loss: Loss, p: usize, l: Records) -> Records
+fn relapse_records(loss: Loss, p: usize, l: Records) -> Records
     requires { ⌜ (packRecords (recordsOf l) ≡ l) × (l .count ≤ maxRecords) ⌝ }
     ensures { λ x. ⌜ x ≡ packRecords (mapIf (relapsesOf loss p) (inStage ReadyStage) (recordsOf l)) ⌝ }
 {
@@ -139,7 +139,7 @@ pub fn relapse_records(loss: Loss, p: usize, l: Records) -> Records
     }
 }
 
-pub fn relapse_partition(loss: Loss, p: usize, x: Partition) -> Partition
+fn relapse_partition(loss: Loss, p: usize, x: Partition) -> Partition
     requires { ⌜ (packPartition (viewPartition x) ≡ x) × (x .records .count ≤ maxRecords) ⌝ }
     ensures { λ y. ⌜ y ≡ packPartition (relapsed (relapsesOf loss) p (viewPartition x)) ⌝ }
 {
@@ -149,7 +149,7 @@ pub fn relapse_partition(loss: Loss, p: usize, x: Partition) -> Partition
     next
 }
 
-pub fn relapse(loss: Loss, t: Tables) -> [Partition; MAX_PARTITIONS]
+fn relapse(loss: Loss, t: Tables) -> [Partition; MAX_PARTITIONS]
     requires { ⌜ Ready t × (t .count ≤ maxPartitions) ⌝ }
     ensures { λ l. ⌜ l ≡ pad maxPartitions zeroPartition (map packPartition (mapFrom (relapsed (relapsesOf loss)) 0 (view t .partitions))) ⌝ }
 {
@@ -165,7 +165,7 @@ pub fn relapse(loss: Loss, t: Tables) -> [Partition; MAX_PARTITIONS]
     partitions
 }
 
-pub fn drain(loss: Loss, t: Tables) -> [Queue; QUEUES]
+fn drain(loss: Loss, t: Tables) -> [Queue; QUEUES]
     requires { ⌜ Ready t ⌝ }
     ensures { λ l. ⌜ l ≡ map packQueue (mapFrom (drained (emptiesOf loss)) 0 (view t .queues)) ⌝ }
 {

@@ -22,7 +22,7 @@ use tables::MAX_BACKPOINTERS;
 use tables::reads;
 
 // Whether the object has no back-pointer.
-pub fn is_idle(l: Backpointers, object: u8) -> bool
+fn is_idle(l: Backpointers, object: u8) -> bool
     requires { ⌜ l .count ≤ maxBackpointers ⌝ }
     ensures { λ r. ⌜ r ≡ isNone (keep (ofObject object) (backpointersOf l)) ⌝ }
 {
@@ -33,14 +33,14 @@ pub fn is_idle(l: Backpointers, object: u8) -> bool
     }
 }
 
-pub fn is_full(l: Backpointers) -> bool
+fn is_full(l: Backpointers) -> bool
     requires { ⌜ l .count ≤ maxBackpointers ⌝ }
     ensures { λ r. ⌜ r ≡ leb maxBackpointers (length (backpointersOf l)) ⌝ }
 {
     MAX_BACKPOINTERS <= l.count
 }
 
-pub fn unless_full(full: bool) -> Verdict
+fn unless_full(full: bool) -> Verdict
     ensures { λ r. ⌜ r ≡ unlessFull full ⌝ }
 {
     if full {
@@ -50,7 +50,7 @@ pub fn unless_full(full: bool) -> Verdict
 }
 
 // Nothing stands in the place of the request.
-pub fn add_verdict(kind: Kind, l: Backpointers, object: u8) -> Verdict
+fn add_verdict(kind: Kind, l: Backpointers, object: u8) -> Verdict
     requires { ⌜ l .count ≤ maxBackpointers ⌝ }
     ensures { λ r. ⌜ r ≡ addVerdict kind (keep (ofObject object) (backpointersOf l)) (leb maxBackpointers (length (backpointersOf l))) ⌝ }
 {
@@ -74,14 +74,14 @@ pub fn add_verdict(kind: Kind, l: Backpointers, object: u8) -> Verdict
     }
 }
 
-pub fn bears(b: Backpointer, number: u32) -> bool
+fn bears(b: Backpointer, number: u32) -> bool
     ensures { λ r. ⌜ r ≡ eqb (b .number) number ⌝ }
 {
     b.number == number
 }
 
 // The back-pointer b stands in the place of the request x.
-pub fn held_verdict(b: Backpointer, x: Message) -> Verdict
+fn held_verdict(b: Backpointer, x: Message) -> Verdict
     ensures { λ r. ⌜ r ≡ pick (eqb (b .number) (x .number)) (SaysOnly Yes) (SaysOnly (NoBecause PlaceTaken)) ⌝ }
 {
     if bears(b, x.number) {
@@ -90,7 +90,7 @@ pub fn held_verdict(b: Backpointer, x: Message) -> Verdict
     Verdict::SaysOnly(Body::NoBecause(Reason::PlaceTaken))
 }
 
-pub fn to_add(kind: Kind, l: Backpointers, s: u8, x: Message) -> Verdict
+fn to_add(kind: Kind, l: Backpointers, s: u8, x: Message) -> Verdict
     requires { ⌜ l .count ≤ maxBackpointers ⌝ }
     ensures { λ r. ⌜ r ≡ toAdd kind (backpointersOf l) s x ⌝ }
 {
@@ -105,7 +105,7 @@ pub fn to_add(kind: Kind, l: Backpointers, s: u8, x: Message) -> Verdict
     }
 }
 
-pub fn to_remove(l: Backpointers, s: u8, x: Message) -> Verdict
+fn to_remove(l: Backpointers, s: u8, x: Message) -> Verdict
     requires { ⌜ l .count ≤ maxBackpointers ⌝ }
     ensures { λ r. ⌜ r ≡ dropVerdict (keep (isExactly s x) (backpointersOf l)) ⌝ }
 {
