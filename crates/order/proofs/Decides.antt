@@ -14,7 +14,9 @@ use Rattle.protocol.specs.Order.{inOrder}
 use Rattle.tables.specs.Slots.{freeMessage}
 use Rattle.tables.specs.View.{Sized, absent, messagesOf, noPartition, noQueue, partitionAt, queueAt, shaped, shapedPartition, shapedQueue, view, viewPartition}
 use Rattle.tables.specs.declared.Tables.{Tables}
-use Rattle.order.specs.Clauses.{lastsOf, pairAt, pairFine, partitionFine, partitionsFine, placeAt, placeFine}
+use Rattle.partitions.specs.Clauses.{partitionFine}
+use Rattle.messages.specs.Clauses.{pairFine}
+use Rattle.order.specs.Clauses.{lastsOf, pairAt, partitionsFine, placeAt, placeFine}
 use Rattle.lists.proofs.Alls.{past-all}
 use Rattle.lists.proofs.Chains.{every-last, every-no, every-yes}
 use Rattle.lists.proofs.Downs.{Down}

@@ -22,12 +22,13 @@ use Rattle.protocol.specs.declared.Record.{Record}
 use Rattle.tables.specs.View.{SizedPartition, messagesOf, shapedPartition, shapedQueue, viewPartition}
 use Rattle.tables.specs.declared.Partition.{Partition}
 use Rattle.tables.specs.declared.Queue.{Queue}
-use Rattle.order.specs.Clauses.{backpointerAmong, backpointerGiven, backpointersFine, entriesFine, entryAmong, given, messageFine, pairFine, partitionFine, placedAmong, recordAmong, recordAnswered, recordsFine, roomIn}
+use Rattle.partitions.specs.Clauses.{backpointerAmong, backpointerGiven, backpointersFine, entriesFine, entryAmong, given, partitionFine, placedAmong, recordAmong, recordsFine, roomIn}
+use Rattle.messages.specs.Clauses.{messageFine, pairFine, recordAnswered}
 use Rattle.lists.proofs.Alls.{all-both, all-first, all-second}
 use Rattle.lists.proofs.Members.{all-get, all-true}
 use Rattle.lists.proofs.Tests.{_also_, and-left, and-right, below-at, below-true, both-true, byTest, done, eqb-same, every-at, every-of, or-else, or-right}
 use Rattle.tables.proofs.Views.{past-view, ranged}
-use Rattle.order.proofs.Laws.{fine-shaped}
+use Rattle.partitions.proofs.Laws.{fine-shaped}
 use Rattle.protocol.specs.Tables.{Partition as Part, Model, partition, queue, partitionCount, isPartition, claimed, noPartition as noPart}
 
 -- ---- one partition

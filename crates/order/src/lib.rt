@@ -9,19 +9,15 @@ use tables::Partition;
 use tables::QUEUES;
 use tables::Tables;
 
-mod messages;
-pub mod partition;
-mod shape;
-
 // Whether a partition may stand at place a, where n are there.
 fn place_in_order(p: Partition, a: usize, n: usize, lasts: [u32; MAX_PARTITIONS]) -> bool
     ensures { λ r. ⌜ r ≡ placeFine n lasts a p ⌝ }
 {
     if a < n {
-        return partition::partition_in_order(p, n, lasts);
+        return partitions::partition_in_order(p, n, lasts);
     }
-    let zero = shape::partition_shaped(p);
-    let unused = shape::is_absent(p);
+    let zero = shapes::partition_shaped(p);
+    let unused = shapes::is_absent(p);
     zero & unused
 }
 

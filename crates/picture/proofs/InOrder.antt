@@ -21,7 +21,7 @@ use Rattle.protocol.specs.declared.Kind.{Kind}
 use Rattle.protocol.specs.declared.Kind.the-variants.{Create, Link, Unlink}
 use Rattle.protocol.specs.declared.Record.{Record}
 use Rattle.protocol.specs.declared.Stage.the-variants.{Ready}
-use Rattle.order.specs.Clauses.{backpointerAmong, entryAmong, given, placedAmong, recordAmong}
+use Rattle.partitions.specs.Clauses.{backpointerAmong, entryAmong, given, placedAmong, recordAmong}
 use Rattle.codec.specs.Codec.{byte, isByte, long, run, then, those, via}
 use Rattle.picture.specs.Claims.{Holds}
 use Rattle.picture.specs.Picture.{BP, EN, Edition, HD, LG, backpointerFits, entryFits, first, headFits, headOf, isKind, itemForm, nameForm, pictureOf, read, recordFits, write}

@@ -18,7 +18,7 @@ use Rattle.protocol.specs.declared.Refusal.the-variants.{FieldOutOfRange, Count
 use Rattle.protocol.specs.Bounds.{maxPartitions, maxEntries, maxBackpointers, maxRecords}
 use Rattle.protocol.specs.Elements.{kindNumber, isReady}
 use Rattle.protocol.specs.Tables.{Partition, Model, partitionCount, partition, inStage}
-use Rattle.order.specs.Clauses.{entryAmong, backpointerAmong, recordAmong, given}
+use Rattle.partitions.specs.Clauses.{entryAmong, backpointerAmong, recordAmong, given}
 use Rattle.picture.specs.declared.Head.{Head}
 use Rattle.picture.specs.Rows.{Row, putRow, Read, fail, more, next, one, Section, Table, close, _before_, Contents, putTable, readTable, counted, fitting}
 

@@ -15,7 +15,7 @@ use Rattle.protocol.specs.declared.Backpointer.{Backpointer}
 use Rattle.protocol.specs.declared.Entry.{Entry}
 use Rattle.protocol.specs.declared.Record.{Record}
 use Rattle.protocol.specs.declared.Refusal.the-variants.{FieldOutOfRange}
-use Rattle.order.specs.Clauses.{backpointerAmong, entryAmong, placedAmong, recordAmong}
+use Rattle.partitions.specs.Clauses.{backpointerAmong, entryAmong, placedAmong, recordAmong}
 use Rattle.codec.specs.Codec.{isByte}
 use Rattle.picture.specs.Picture.{BP, EN, HD, Items, LG, backpointerFits, entryFits, first, headFits, headSize, recordFits, sections}
 use Rattle.picture.specs.Rows.{Row, begins, body, fits, marked, more, next, one, putRow, putRows, putTable, readTable}

@@ -10,7 +10,6 @@ ghost use Rattle.picture.specs.Rows.{one, body};
 ghost use Rattle.picture.specs.Picture.{first, HD, EN, BP, LG, isKind, kindOf, headFits, entryFits, backpointerFits, recordFits};
 ghost use Rattle.picture.specs.Answers.{zeroHead, Answered};
 use crate::bytes;
-use order::partition;
 use picture::BACKPOINTER_SIZE;
 use picture::BackpointerRead;
 use picture::D;
@@ -107,10 +106,10 @@ pub fn read_head(s: &[u8]) -> HeadRead
 fn entry_fits(h: Head, e: Entry) -> bool
     ensures { λ r. ⌜ r ≡ entryFits h e ⌝ }
 {
-    if partition::entry_in_range(e, h.count as usize) {} else {
+    if partitions::entry_in_range(e, h.count as usize) {} else {
         return false;
     }
-    partition::is_given(h.last, e.number)
+    partitions::is_given(h.last, e.number)
 }
 
 fn entry_at(s: &[u8]) -> Entry
@@ -157,7 +156,7 @@ pub fn decode_entry(s: &[u8], h: Head) -> EntryRead
 fn backpointer_fits(h: Head, b: Backpointer) -> bool
     ensures { λ r. ⌜ r ≡ backpointerFits h b ⌝ }
 {
-    if partition::backpointer_in_range(b, h.count as usize) {} else {
+    if partitions::backpointer_in_range(b, h.count as usize) {} else {
         return false;
     }
     1 <= b.number
@@ -231,10 +230,10 @@ fn kind_of(k: u8) -> Kind
 fn record_fits(h: Head, r: Record) -> bool
     ensures { λ b. ⌜ b ≡ recordFits h r ⌝ }
 {
-    if partition::record_in_range(r, h.count as usize) {} else {
+    if partitions::record_in_range(r, h.count as usize) {} else {
         return false;
     }
-    partition::is_given(h.last, r.number)
+    partitions::is_given(h.last, r.number)
 }
 
 // The third byte is a kind.

@@ -4,7 +4,6 @@ ghost use Rattle.tables.specs.View.{viewPartition, Ranged};
 ghost use Rattle.picture.specs.Lone.{orderAlone, lone};
 use crate::read_picture;
 use numbers::accepted;
-use order::partition;
 use protocol::Refusal;
 use tables::Partition;
 
@@ -14,18 +13,18 @@ fn order_alone(x: Partition) -> bool
     ensures { λ r. ⌜ r ≡ orderAlone (viewPartition x) ⌝ }
 {
     let entries = x.entries;
-    if partition::entries_apart(entries) {} else {
+    if partitions::entries_apart(entries) {} else {
         return false;
     }
     let records = x.records;
-    if partition::records_apart(records) {} else {
+    if partitions::records_apart(records) {} else {
         return false;
     }
-    if partition::has_room(entries, records) {} else {
+    if partitions::has_room(entries, records) {} else {
         return false;
     }
     let backpointers = x.backpointers;
-    partition::backpointers_apart(backpointers)
+    partitions::backpointers_apart(backpointers)
 }
 
 pub fn check(bytes: &[u8]) -> Refusal

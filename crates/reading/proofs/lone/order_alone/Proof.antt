@@ -1,6 +1,6 @@
 use Rattle.lists.proofs.Chains.{everys}
 use Rattle.protocol.specs.Tables.{claimed}
-use Rattle.order.specs.Clauses.{roomIn}
+use Rattle.partitions.specs.Clauses.{roomIn}
 use Rattle.picture.specs.Lone.{orderAlone}
 use borrow.Author.Needs.{needs}
 use Rattle.reading.proofs.lone.order_alone.Statement.{statement}
