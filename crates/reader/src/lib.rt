@@ -13,7 +13,7 @@ pub struct Reader<'a> {
 fn record_at(s: &[u8], at: usize) -> Handed
     ensures { λ r. ⌜ r ≡ handedAt (now (s .entry)) at ⌝ }
 {
-    reading::standing::record_at(s, at)
+    standing::record_at(s, at)
 }
 
 fn next_at(s: &[u8], at: usize) -> usize

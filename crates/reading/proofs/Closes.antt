@@ -15,8 +15,8 @@ use Rattle.codec.specs.Codec.{get2, got, word}
 use Rattle.picture.specs.Answers.{toldClose}
 use Rattle.picture.specs.Picture.{ED, closing, ended}
 use Rattle.picture.specs.Rows.{body, fail, marked, next, one}
-use Rattle.reading.proofs.Fields.{short-ED}
-use Rattle.reading.proofs.Ways.{body-bad, body-good, body-short}
+use Rattle.decoding.proofs.Fields.{short-ED}
+use Rattle.decoding.proofs.Ways.{body-bad, body-good, body-short}
 
 module _ (s : List ℕ) (at n : ℕ) (in-it : at ≤ length s) where
   abbrev d : List ℕ

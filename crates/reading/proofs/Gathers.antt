@@ -13,7 +13,7 @@ use Rattle.picture.specs.Answers.{Answered, Gathered, told}
 use Rattle.picture.specs.Picture.{read}
 use Rattle.picture.specs.Rows.{Read, Row, body, fail, many, marked, more}
 use Rattle.codec.proofs.Sizes.{Short}
-use Rattle.reading.proofs.Decodes.{told-fail, told-more}
+use Rattle.decoding.proofs.Decodes.{told-fail, told-more}
 use Rattle.reading.proofs.Sectioned.{Reading, body-long, section-end, section-fail, section-full, section-start, section-turn}
 
 module _ {A : Type 0} (w : Row A) (t : A → Bool) (cap : ℕ) (z : A) (s : List ℕ) (from : ℕ) where

@@ -1,9 +1,6 @@
 pub mod Ways
 pub mod Sectioned
-pub mod Decodes
-pub mod Fields
 pub mod Gathers
 pub mod Closes
 pub mod Pictures
 pub mod Alone
-pub mod Standings

@@ -25,8 +25,8 @@ use Rattle.picture.specs.declared.PictureRead.{PictureRead}
 use Rattle.lists.proofs.Fills.{length-pad}
 use Rattle.picture.proofs.Forms.{lawful-HD}
 use Rattle.picture.proofs.Rounds.{one-more}
-use Rattle.reading.proofs.Decodes.{told-fail, told-more}
-use Rattle.reading.proofs.Fields.{short-HD}
+use Rattle.decoding.proofs.Decodes.{told-fail, told-more}
+use Rattle.decoding.proofs.Fields.{short-HD}
 use Rattle.reading.proofs.Sectioned.{body-long}
 use Rattle.tables.specs.declared.Partition.{Partition as Stored}
 

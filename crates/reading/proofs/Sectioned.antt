@@ -16,7 +16,8 @@ use Rattle.picture.specs.Rows.{Read, Row, body, fail, many, marked, more}
 use Rattle.lists.proofs.Fills.{length-pad, set-pad}
 use Rattle.lists.proofs.Tests.{byTest}
 use Rattle.codec.proofs.Sizes.{Short}
-use Rattle.reading.proofs.Ways.{body-short, many-fail, many-full, many-stop, many-turn}
+use Rattle.decoding.proofs.Ways.{body-short}
+use Rattle.reading.proofs.Ways.{many-fail, many-full, many-stop, many-turn}
 
 -- the answer Q is the answer at what is left, behind the first n of xs, whose other places hold z
 abbrev pub Reading : {A : Type 0} → Row A → (List A → A → Bool) → ℕ → A → List ℕ → Read (List A) → List A → ℕ → ℕ → Type 0

@@ -6,8 +6,7 @@ ghost use Rattle.protocol.specs.Bounds.{maxEntries, maxBackpointers, maxRecords
 ghost use Rattle.tables.specs.Slots.{zeroEntry, zeroBackpointer, zeroRecord};
 ghost use Rattle.picture.specs.Picture.{first, EN, BP, LG, entryFits, backpointerFits, recordFits};
 ghost use Rattle.picture.specs.Answers.{Gathered};
-use crate::bytes;
-use crate::decode;
+use decoding::bytes;
 use numbers::accepted;
 use picture::B;
 use picture::BACKPOINTER_SIZE;
@@ -57,7 +56,7 @@ pub fn read_entries(s: &[u8], from: usize, h: Head) -> EntriesRead
     let mut count: usize = 0;
     let mut at = from;
     while bytes::begins_with(s, at, E, N) {
-        let got = decode::decode_entry(&s[at..], h);
+        let got = decoding::decode_entry(&s[at..], h);
         let refusal = got.refusal;
         if accepted(refusal) {} else {
             return no_entries(refusal);
@@ -104,7 +103,7 @@ pub fn read_backpointers(s: &[u8], from: usize, h: Head) -> BackpointersRead
     let mut count: usize = 0;
     let mut at = from;
     while bytes::begins_with(s, at, B, P) {
-        let got = decode::decode_backpointer(&s[at..], h);
+        let got = decoding::decode_backpointer(&s[at..], h);
         let refusal = got.refusal;
         if accepted(refusal) {} else {
             return no_backpointers(refusal);
@@ -151,7 +150,7 @@ pub fn read_records(s: &[u8], from: usize, h: Head) -> RecordsRead
     let mut count: usize = 0;
     let mut at = from;
     while bytes::begins_with(s, at, L, G) {
-        let got = decode::decode_record(&s[at..], h);
+        let got = decoding::decode_record(&s[at..], h);
         let refusal = got.refusal;
         if accepted(refusal) {} else {
             return no_records(refusal);

@@ -7,9 +7,8 @@ ghost use Rattle.protocol.specs.Tables.{noPartition};
 ghost use Rattle.tables.specs.View.{packPartition};
 ghost use Rattle.picture.specs.Picture.{headSize, closing};
 ghost use Rattle.picture.specs.Answers.{zeroHead, Tabled, toldClose, Pictured};
-use crate::bytes;
-use crate::decode;
 use crate::sections;
+use decoding::bytes;
 use numbers::accepted;
 use picture::CLOSE_SIZE;
 use picture::D;
@@ -152,7 +151,7 @@ fn no_picture(refusal: Refusal) -> PictureRead
 pub fn read_picture(s: &[u8]) -> PictureRead
     ensures { λ r. ⌜ Pictured (now (s .entry)) r ⌝ }
 {
-    let h = decode::read_head(s);
+    let h = decoding::read_head(s);
     let first = h.refusal;
     if accepted(first) {} else {
         return no_picture(first);

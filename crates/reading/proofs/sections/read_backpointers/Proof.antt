@@ -4,7 +4,7 @@ use borrow.Rule.Slice.PartAt.{part-to-end}
 use Rattle.protocol.specs.Bounds.{maxBackpointers}
 use Rattle.tables.specs.Slots.{zeroBackpointer}
 use Rattle.picture.specs.Picture.{first, BP, backpointerFits}
-use Rattle.reading.proofs.Fields.{mark-BP, short-BP}
+use Rattle.decoding.proofs.Fields.{mark-BP, short-BP}
 use Rattle.reading.proofs.Gathers.{Walking, gather-end, gather-fail, gather-full, gather-less, gather-start, gather-turn, walk-place}
 use borrow.Author.Needs.{needs}
 use Rattle.reading.proofs.sections.read_backpointers.Statement.{statement}

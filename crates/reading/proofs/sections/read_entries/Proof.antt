@@ -4,7 +4,7 @@ use borrow.Rule.Slice.PartAt.{part-to-end}
 use Rattle.protocol.specs.Bounds.{maxEntries}
 use Rattle.tables.specs.Slots.{zeroEntry}
 use Rattle.picture.specs.Picture.{first, EN, entryFits}
-use Rattle.reading.proofs.Fields.{mark-EN, short-EN}
+use Rattle.decoding.proofs.Fields.{mark-EN, short-EN}
 use Rattle.reading.proofs.Gathers.{Walking, gather-end, gather-fail, gather-full, gather-less, gather-start, gather-turn, walk-place}
 use borrow.Author.Needs.{needs}
 use Rattle.reading.proofs.sections.read_entries.Statement.{statement}

@@ -4,7 +4,7 @@ use borrow.Rule.Slice.PartAt.{part-to-end}
 use Rattle.protocol.specs.Bounds.{maxRecords}
 use Rattle.tables.specs.Slots.{zeroRecord}
 use Rattle.picture.specs.Picture.{first, LG, recordFits}
-use Rattle.reading.proofs.Fields.{mark-LG, short-LG}
+use Rattle.decoding.proofs.Fields.{mark-LG, short-LG}
 use Rattle.reading.proofs.Gathers.{Walking, gather-end, gather-fail, gather-full, gather-less, gather-start, gather-turn, walk-place}
 use borrow.Author.Needs.{needs}
 use Rattle.reading.proofs.sections.read_records.Statement.{statement}

@@ -1,5 +1,5 @@
 use Rattle.reading.proofs.Closes.{closeLaws}
-use Rattle.reading.proofs.Fields.{mark-ED}
+use Rattle.decoding.proofs.Fields.{mark-ED}
 use borrow.Author.Needs.{needs}
 use Rattle.reading.proofs.whole.close_at.Statement.{statement}
 use Rattle.reading.proofs.whole.close_at.Tie as tie
