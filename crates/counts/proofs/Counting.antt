@@ -21,7 +21,7 @@ use Rattle.tables.proofs.Views.{partition-there, queues-view}
 use Rattle.rehearsal.specs.Answers.{row, rows, squareOf}
 use Rattle.counts.specs.Counts.{Small, Sums, lengthAt, lengths, lengthsFrom, noSums, partitionSums, plusPartition, sumsOf}
 use Rattle.rehearsal.specs.Rehearsal.{square}
-use Rattle.rehearsal.proofs.Squares.{each-length}
+use Rattle.texts.proofs.Squares.{each-length}
 
 -- ---- counts of arrays
 

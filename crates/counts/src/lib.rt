@@ -7,7 +7,6 @@ ghost use Rattle.protocol.specs.Tables.{totals};
 ghost use Rattle.tables.specs.View.{view};
 ghost use Rattle.counts.specs.Counts.{Small, lengths, lengthsFrom, noSums, partitionSums, plusPartition, sumsOf};
 use rehearsal::SIDE;
-use rehearsal::answer::at_most;
 use tables::MAX_BACKPOINTERS;
 use tables::MAX_ENTRIES;
 use tables::MAX_MESSAGES;
@@ -16,6 +15,7 @@ use tables::Partition;
 use tables::QUEUES;
 use tables::Queue;
 use tables::Tables;
+use texts::answer::at_most;
 
 // What stands in the tables over all partitions and queues.
 pub struct Sums {

@@ -20,12 +20,12 @@ use protocol::Refusal;
 use rehearsal::Command;
 use rehearsal::Numbers;
 use rehearsal::Verb;
-use rehearsal::answer;
 use sessions::numbers_of;
 use tables::MAX_PARTITIONS;
 use tables::Partition;
 use tables::Queue;
 use tables::Tables;
+use texts::answer;
 
 // Whether the command is one of these, and then its answer and its change.
 pub struct Deed {

@@ -1,11 +1,6 @@
-pub mod Words
-pub mod Values
-pub mod Spellings
 pub mod Rows
-pub mod Commands
 pub mod Decimals
-pub mod Buffers
-pub mod Spaces
+pub mod Lengths
+pub mod Outcomes
 pub mod Examples
 pub mod Returns
-pub mod Squares

@@ -1,5 +1,4 @@
 pub mod Line
-pub mod Places
 pub mod Text
 pub mod Answers
 pub mod Rehearsal

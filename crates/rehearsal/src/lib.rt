@@ -1,11 +1,7 @@
-// The rehearsal (document 01, 'The rehearsal program'): what a line asks, and the text that answers it.
+// The rehearsal (document 01, 'The rehearsal program'): what a line asks, and the text that answers it, in types and definitions.
 // What is proved of the definitions in specs/ stands in the contract of `claims`, and the function does nothing.
 ghost use Rattle.rehearsal.specs.Claims.{Worked, OneReading, ReadBack, ShortText, OneText};
 use names::Name;
-
-pub mod answer;
-pub mod line;
-pub mod text;
 
 // The bytes of a line, the LF that ends it not counted.
 pub const LINE_BYTES: usize = 64;
@@ -53,25 +49,6 @@ pub struct Command {
     pub verb: Verb,
     pub name: Name,
     pub numbers: [u32; WORDS],
-}
-
-// What a word is, where it should be a number: its value, and the place behind it.
-pub enum Number {
-    Value(u32, usize),
-    None,
-}
-
-// The name that a word spells, and the place behind the word.
-struct Spelling {
-    pub name: Name,
-    pub next: usize,
-}
-
-// A row of the table of commands: so many words behind the letter, and which of them is the name (`words`, where none is).
-struct Shape {
-    pub verb: Verb,
-    pub words: usize,
-    pub name: usize,
 }
 
 // What a line answers, behind its own number.

@@ -20,9 +20,9 @@ use Rattle.picture.specs.declared.Head.{Head}
 use Rattle.writing.specs.Written.{after, writtenFrom}
 use Rattle.writing.specs.declared.Reported.{Reported}
 use Rattle.loading.specs.Loaded.{loaded}
-use Rattle.rehearsal.specs.Places.{numberAt}
-use Rattle.rehearsal.specs.declared.Number.{Number}
-use Rattle.rehearsal.specs.declared.Number.the-variants.{None, Value}
+use Rattle.lines.specs.Places.{numberAt}
+use Rattle.lines.specs.declared.Number.{Number}
+use Rattle.lines.specs.declared.Number.the-variants.{None, Value}
 use Rattle.lists.proofs.Tests.{byTest}
 use Rattle.codec.proofs.Puts.{length-over}
 use Rattle.rewrite.specs.Again.{again, awaiting, filling, timesOf}

@@ -13,9 +13,9 @@ use Rattle.answers.specs.Called.{called}
 use Rattle.picture.specs.Store.{Written, unwritten}
 use Rattle.picture.specs.declared.Head.{Head}
 use Rattle.writing.specs.Written.{writtenFrom}
-use Rattle.rehearsal.specs.Places.{numberAt}
-use Rattle.rehearsal.specs.declared.Number.{Number}
-use Rattle.rehearsal.specs.declared.Number.the-variants.{None, Value}
+use Rattle.lines.specs.Places.{numberAt}
+use Rattle.lines.specs.declared.Number.{Number}
+use Rattle.lines.specs.declared.Number.the-variants.{None, Value}
 
 -- a number that fills a word of this length; of anything else 0
 abbrev pub filling : ℕ → Number → ℕ

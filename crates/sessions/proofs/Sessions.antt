@@ -32,7 +32,7 @@ use Rattle.rehearsal.specs.declared.Verb.{Verb}
 use Rattle.rehearsal.specs.declared.Verb.the-variants.{Advance, Crash, Create, Cut, Deliver, Link, NotUnderstood, Open, Recover, Settle, Square, Totals, Unlink}
 use Rattle.rehearsal.specs.Rehearsal.{answerNumbers, argument, closed, happened, hasSettled, isOpen, opening, respond, respondTo, running, unread}
 use Rattle.sessions.specs.Session.{Agrees, Orderly, Session, afterEvent, afterOpen, afterSettle, closedSession, holding, notRead, openedBy, responded, respondedTo, stateOf}
-use Rattle.rehearsal.proofs.Squares.{stored-numbers}
+use Rattle.texts.proofs.Squares.{stored-numbers}
 
 -- ---- what is stored of a model in order
 

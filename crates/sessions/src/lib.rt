@@ -11,9 +11,9 @@ use protocol::Refusal;
 use rehearsal::Command;
 use rehearsal::Numbers;
 use rehearsal::Verb;
-use rehearsal::answer;
 use settle::run;
 use tables::Tables;
+use texts::answer;
 
 // Between two lines. Before the first accepted `P` it is not open, and its tables are nobody's.
 pub struct Session {

@@ -18,9 +18,9 @@ use Rattle.protocol.specs.Bounds.{largestNumber}
 use Rattle.rehearsal.specs.Answers.{maxNumbers, numbersOf}
 use Rattle.rehearsal.specs.Text.{Adds, Puts, lineText}
 use Rattle.rehearsal.specs.declared.Numbers.{Numbers}
-use Rattle.rehearsal.proofs.Buffers.{puts-adds}
+use Rattle.rehearsal.proofs.Lengths.{line-most}
 use Rattle.rehearsal.proofs.Numbers.{the-row}
-use Rattle.rehearsal.proofs.Spaces.{line-most}
+use Rattle.texts.proofs.Buffers.{puts-adds}
 use Rattle.stream.specs.Feed.{longestAnswer}
 
 module _ (x : Numbers) (vs : List Val) (v : Is the-row x vs) where

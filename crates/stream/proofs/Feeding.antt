@@ -23,7 +23,7 @@ use Rattle.protocol.specs.Bounds.{maxMessages, maxPartitions}
 use Rattle.tables.specs.View.{messagesOf, noQueue, packQueue, partitionAt, queueAt}
 use Rattle.tables.specs.declared.Queue.{Queue}
 use Rattle.tables.specs.declared.Tables.{Tables}
-use Rattle.rehearsal.proofs.Buffers.{adds-length, adds-nothing, adds-on}
+use Rattle.texts.proofs.Buffers.{adds-length, adds-nothing, adds-on}
 use Rattle.stream.specs.Feed.{Midway, Service, begunWith, fed, fedByte, longestAnswer, midway, nextLine, said, saidByte}
 use Rattle.stream.specs.Sessions.{sessions}
 

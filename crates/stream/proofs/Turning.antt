@@ -8,7 +8,7 @@ use lib.ListN.{drop, length, length-append}
 use Rattle.lists.specs.Lists.{isSome}
 use Rattle.rehearsal.specs.Text.{Adds, lineEnd, written}
 use Rattle.sessions.specs.declared.Session.{Session}
-use Rattle.rehearsal.proofs.Buffers.{adds-nothing}
+use Rattle.texts.proofs.Buffers.{adds-nothing}
 use Rattle.stream.specs.Feed.{midway, said, saidLast}
 use Rattle.stream.specs.Sessions.{sessions}
 

@@ -15,10 +15,9 @@ use rehearsal::Command;
 use rehearsal::LF;
 use rehearsal::LINE_BYTES;
 use rehearsal::Numbers;
-use rehearsal::line;
-use rehearsal::text;
 use sessions::Session;
 use tables::MAX_PARTITIONS;
+use texts::text;
 
 // One byte more than a line may have stands for any more.
 const LINE_ROOM: usize = LINE_BYTES + 1;
@@ -68,9 +67,9 @@ fn command_within(bytes: &[u8], len: usize) -> Command
     ensures { λ r. ⌜ r ≡ commandOf (take len (now (bytes .entry))) ⌝ }
 {
     if len <= bytes.len() {} else {
-        return line::command_of(bytes);
+        return lines::command_of(bytes);
     }
-    line::command_of(&bytes[..len])
+    lines::command_of(&bytes[..len])
 }
 
 fn command_in(l: Line) -> Command

@@ -1,8 +1,8 @@
-use Rattle.rehearsal.proofs.Buffers.{one-place, one-text}
 use Rattle.rehearsal.proofs.Examples.{worked, worked-readings}
+use Rattle.rehearsal.proofs.Lengths.{line-most}
+use Rattle.rehearsal.proofs.Outcomes.{one-place, one-text}
 use Rattle.rehearsal.proofs.Rows.{one-reading}
 use Rattle.rehearsal.proofs.Returns.{number-back, value-back}
-use Rattle.rehearsal.proofs.Spaces.{line-most}
 use Rattle.rehearsal.proofs.claims.Statement.{statement}
 use Rattle.rehearsal.proofs.claims.Tie as tie
 

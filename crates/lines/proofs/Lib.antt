@@ -1,0 +1,5 @@
+pub mod Words
+pub mod Values
+pub mod Spellings
+pub mod Shapes
+pub mod Commands

@@ -1,0 +1,4 @@
+pub mod Digits
+pub mod Buffers
+pub mod Spaces
+pub mod Squares
