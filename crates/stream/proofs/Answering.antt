@@ -21,7 +21,7 @@ use Rattle.rehearsal.specs.declared.Numbers.{Numbers}
 use Rattle.rehearsal.proofs.Lengths.{line-most}
 use Rattle.rehearsal.proofs.Numbers.{the-row}
 use Rattle.texts.proofs.Buffers.{puts-adds}
-use Rattle.stream.specs.Feed.{longestAnswer}
+use Rattle.feeding.specs.Feed.{longestAnswer}
 
 module _ (x : Numbers) (vs : List Val) (v : Is the-row x vs) where
   few : length (x .values) ≡ maxNumbers

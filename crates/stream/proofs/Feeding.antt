@@ -24,8 +24,8 @@ use Rattle.tables.specs.View.{messagesOf, noQueue, packQueue, partitionAt, queu
 use Rattle.tables.specs.declared.Queue.{Queue}
 use Rattle.tables.specs.declared.Tables.{Tables}
 use Rattle.texts.proofs.Buffers.{adds-length, adds-nothing, adds-on}
-use Rattle.stream.specs.Feed.{Midway, Service, begunWith, fed, fedByte, longestAnswer, midway, nextLine, said, saidByte}
-use Rattle.stream.specs.Sessions.{sessions}
+use Rattle.feeding.specs.Feed.{Midway, Service, begunWith, fed, fedByte, longestAnswer, midway, nextLine, said, saidByte}
+use Rattle.feeding.specs.Sessions.{sessions}
 
 -- ---- a block from a place on
 module _ {S : Type 0} (v : Service S) (block : List ℕ) (i : ℕ) where

@@ -16,8 +16,9 @@ use Rattle.rehearsal.specs.Line.{commandOf}
 use Rattle.sessions.specs.Session.{closedSession}
 use Rattle.rehearsal.specs.declared.Command.{Command}
 use Rattle.sessions.specs.declared.Session.{Session}
-use Rattle.stream.specs.Feed.{begunWith, lineRoom, midway}
-use Rattle.stream.specs.Sessions.{atStart, lineOf}
+use Rattle.feeding.specs.Feed.{begunWith, lineRoom, midway}
+use Rattle.feeding.specs.Sessions.{atStart}
+use Rattle.stream.specs.Keeping.{lineOf}
 use Rattle.stream.specs.declared.blocks.Line.{Line}
 use Rattle.stream.proofs.blocks.Line.{the-row}
 

@@ -2,4 +2,3 @@ pub mod Gathering
 pub mod Answering
 pub mod Feeding
 pub mod Turning
-pub mod Dividing

@@ -9,8 +9,8 @@ use Rattle.lists.specs.Lists.{isSome}
 use Rattle.rehearsal.specs.Text.{Adds, lineEnd, written}
 use Rattle.sessions.specs.declared.Session.{Session}
 use Rattle.texts.proofs.Buffers.{adds-nothing}
-use Rattle.stream.specs.Feed.{midway, said, saidLast}
-use Rattle.stream.specs.Sessions.{sessions}
+use Rattle.feeding.specs.Feed.{midway, said, saidLast}
+use Rattle.feeding.specs.Sessions.{sessions}
 
 module _ (t before after : List ℕ) (p : ℕ) (r : Adds t before 0 after p) where
   place-at : length after ≡ length t + length (drop (0 + length t) before)

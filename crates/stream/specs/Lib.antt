@@ -1,3 +1,1 @@
-pub mod Feed
-pub mod Sessions
-pub mod Claims
+pub mod Keeping

@@ -4,9 +4,9 @@ ghost use mathlib.Core.Path.{_≡_};
 ghost use Prim.Native.Nat.{_*_, _≤_};
 ghost use lib.ListN.{length, take};
 ghost use Rattle.rehearsal.specs.Text.{Adds};
-ghost use Rattle.stream.specs.Claims.{AnyBlocks};
-ghost use Rattle.stream.specs.Feed.{blockBytes, fed, longestAnswer, said, saidLast};
-ghost use Rattle.stream.specs.Sessions.{midwayOf, sessions};
+ghost use Rattle.feeding.specs.Feed.{blockBytes, fed, longestAnswer, said, saidLast};
+ghost use Rattle.feeding.specs.Sessions.{sessions};
+ghost use Rattle.stream.specs.Keeping.{midwayOf};
 use blocks::Kept;
 use libc::STDOUT_FILENO;
 use rehearsal::LF;
@@ -15,11 +15,6 @@ mod blocks;
 
 // Room for the answers to any block of `io::buffer`: each of its bytes may end a line, and have the longest answer.
 const ROOM: usize = 851968;
-
-// What is proved of the definitions: the function does nothing.
-pub fn claims()
-    ensures { λ r. ⌜ AnyBlocks ⌝ }
-{}
 
 // The lent room, with its length said once: a proof that looks into so long an array takes long.
 fn empty_room() -> [u8; ROOM]

@@ -1,4 +1,4 @@
-use Rattle.stream.specs.Feed.{longestAnswer}
+use Rattle.feeding.specs.Feed.{longestAnswer}
 use Prim.Native.Nat.{_*_, _≤_}
 use lib.ListN.{length}
 use borrow.Author.Needs.{needs}

@@ -1,7 +1,7 @@
 use Rattle.stream.proofs.Feeding.{Feeding, feed-deed, feed-kept, feed-line, feed-room, feed-said, feeding, from-most, from-packed, from-takes, one-less, partition-named, queue-named, to-packed, to-sends}
 use Rattle.answers.proofs.Applied.{change-stores}
-use Rattle.stream.specs.Feed.{midway}
-use Rattle.stream.specs.Sessions.{lineOf}
+use Rattle.feeding.specs.Feed.{midway}
+use Rattle.stream.specs.Keeping.{lineOf}
 use Prim.Native.Nat.{_-_}
 use mathlib.Core.Path.{refl}
 use lib.ListN.{length}

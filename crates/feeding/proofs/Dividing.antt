@@ -17,8 +17,8 @@ use Rattle.rehearsal.specs.Text.{lineEnd, lineText}
 use Rattle.rehearsal.specs.declared.Command.{Command}
 use Rattle.sessions.specs.declared.Session.{Session}
 use Rattle.sessions.proofs.Sessions.{first-closed, first-orderly, session-agrees}
-use Rattle.stream.specs.Sessions.{atStart, sessions}
-use Rattle.stream.specs.Feed.{Midway, Service, answer, answered, begunWith, fed, fedByte, joined, lineRoom, midway, nextLine, said, saidAll, saidByte, saidLast, startWith}
+use Rattle.feeding.specs.Sessions.{atStart, sessions}
+use Rattle.feeding.specs.Feed.{Midway, Service, answer, answered, begunWith, fed, fedByte, joined, lineRoom, midway, nextLine, said, saidAll, saidByte, saidLast, startWith}
 
 -- ---- blocks, one after the other
 module _ {S : Type 0} (v : Service S) where

@@ -4,8 +4,8 @@ use mathlib.Core.Path.{_≡_}
 use Prim.Native.Nat.{_<_, _^_, ℕ}
 use lib.ListN.{length}
 use Rattle.rehearsal.specs.Rehearsal.{rehearsal}
-use Rattle.stream.specs.Feed.{joined, saidAll}
-use Rattle.stream.specs.Sessions.{atStart, sessions}
+use Rattle.feeding.specs.Feed.{joined, saidAll}
+use Rattle.feeding.specs.Sessions.{atStart, sessions}
 
 -- from its start on, and whatever the blocks in which an input comes, what the program says to them is the rehearsal of the input;
 -- past 2 ^ 64 bytes a line's number would not have room

@@ -1,0 +1,3 @@
+pub mod Feed
+pub mod Sessions
+pub mod Claims
