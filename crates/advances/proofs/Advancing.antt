@@ -244,14 +244,17 @@ pub ruleset steps = (step-records, step-entries, step-place, step-most, step-ent
 
 -- ---- the record's request is sent to q
 
--- which partition is up, of the four that were read
-pub up-of : (t : Tables) (q : ℕ) → q < maxPartitions
-    → getD (partitionAt t 0 .up ∷ partitionAt t 1 .up ∷ partitionAt t 2 .up ∷ partitionAt t 3 .up ∷ []) q false ≡ partitionAt t q .up
-up-of t zero l = refl
-up-of t (suc zero) l = refl
-up-of t (suc (suc zero)) l = refl
-up-of t (suc (suc (suc zero))) l = refl
-up-of t (suc (suc (suc (suc k)))) l = absurd (omega arith)
+-- whether partition q is up, which is the one at place k
+pub up-of : (t : Tables) (q k : ℕ) → q ≡ k → partitionAt t k .up ≡ partitionAt t q .up
+up-of t q k e = rw e refl
+
+-- none of the first three
+pub up-last : (t : Tables) (q : ℕ) → q < maxPartitions → (q ≡ 0 → ⊥) → (q ≡ 1 → ⊥) → (q ≡ 2 → ⊥) → partitionAt t 3 .up ≡ partitionAt t q .up
+up-last t zero l a b c = absurd (a refl)
+up-last t (suc zero) l a b c = absurd (b refl)
+up-last t (suc (suc zero)) l a b c = absurd (c refl)
+up-last t (suc (suc (suc zero))) l a b c = refl
+up-last t (suc (suc (suc (suc k)))) l a b c = absurd (omega arith)
 
 module _ (t : Tables) (z : Sized t) (r : Ready t) (p i : ℕ) (c : Record) (o : OpenAt t p i c) where
   sole-record : keep (recordBears (c .number)) (partition (view t) p .records) ≡ c ∷ []

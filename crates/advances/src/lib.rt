@@ -183,18 +183,17 @@ fn send_request(t: Tables, own: Partition, p: usize, i: usize, r: Record, q: usi
     exchanges(p, q, x, r.number, false, true, message)
 }
 
-// Whether partition q is up. All four are read, each at a place that is constant, and q chooses among the four bools: to read t
-// at q would copy all of it.
-fn is_up(t: Tables, q: usize) -> bool
+// Whether partition q is up. Each is read at a place that is constant: to read t at q would copy all of it.
+pub fn is_up(t: Tables, q: usize) -> bool
     requires { ⌜ q < maxPartitions ⌝ }
     ensures { λ r. ⌜ r ≡ partitionAt t q .up ⌝ }
 {
-    let a = t.partitions[0];
-    let b = t.partitions[1];
-    let c = t.partitions[2];
-    let d = t.partitions[3];
-    let ups = [a.up, b.up, c.up, d.up];
-    ups[q]
+    match q {
+        0 => t.partitions[0].up,
+        1 => t.partitions[1].up,
+        2 => t.partitions[2].up,
+        _ => t.partitions[3].up,
+    }
 }
 
 fn send_if_up(t: Tables, own: Partition, p: usize, i: usize, r: Record, q: usize) -> Change
