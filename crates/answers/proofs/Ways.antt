@@ -6,11 +6,11 @@ use native.Mathlib.Omega.{arith}
 use lib.Dec.{ltb}
 use lib.ListN.{length}
 use lib.Seq.{length-take-le}
-use borrow.Author.Tests.{lt-ltb, ltb-true}
+use borrow.Author.Tests.{leb-true, lt-ltb, ltb-true}
 use Rattle.protocol.specs.Answers.{Outcome, accept, check}
 use Rattle.protocol.specs.Bounds.{maxBackpointers, maxEntries, maxPartitions, maxRecords}
 use Rattle.protocol.specs.Elements.{isAccepted}
-use Rattle.protocol.specs.Order.{inOrder}
+use Rattle.protocol.specs.Order.{O1, inOrder}
 use Rattle.protocol.specs.Tables.{Model, isPartition, partition, partitionCount, Partition as Part}
 use Rattle.protocol.specs.declared.Refusal.{Refusal}
 use Rattle.protocol.specs.declared.Refusal.the-variants.{OutOfOrder}
@@ -19,7 +19,7 @@ use Rattle.tables.specs.View.{Ranged, Sized, SizedPartition, Stored, pack, part
 use Rattle.tables.specs.declared.Partition.{Partition}
 use Rattle.tables.specs.declared.Tables.{Tables}
 use Rattle.answers.specs.Called.{Answered, Ready, acceptedWith, refusedWith, stored, tested}
-use Rattle.lists.proofs.Tests.{and-left, and-right}
+use Rattle.lists.proofs.Tests.{and-left, and-right, every-at}
 use Rattle.tables.proofs.Packs.{pack-view, shaped-all}
 use Rattle.tables.proofs.Views.{count-view, partition-there, ranged}
 
@@ -33,6 +33,14 @@ ready-stored t p z r h = record { packed = pack-view t z (r .shaped); count = re
 
 pub ready-view : (t : Tables) → Sized t → Ready t → partitionCount (view t) ≡ t .count
 ready-view t z r = count-view t z (ready-count t z r)
+
+-- there is a first partition
+pub ready-some : (t : Tables) → Sized t → Ready t → 0 < t .count
+unfolding inOrder O1
+ready-some t z r =
+    let e = ready-view t z r in
+    let h : 1 ≤ partitionCount (view t) = leb-true _ _ (every-at _ (every-at _ (r .order) 0) 0) in
+    omega arith
 
 pub read-four : (t : Tables) (p : ℕ) → Sized t → Ready t → p < t .count → p < maxPartitions
 read-four t p z r h = let a = ready-count t z r in omega arith

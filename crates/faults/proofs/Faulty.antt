@@ -8,25 +8,31 @@ use Rattle.protocol.specs.Answers.{accept, check}
 use Rattle.protocol.specs.Bounds.{maxPartitions}
 use Rattle.protocol.specs.Events.{Opening, apply, bare}
 use Rattle.protocol.specs.Faults.{between, crash, cut, lose, openTables, recover, sentBetween}
-use Rattle.protocol.specs.Tables.{Model, fresh, isPartition, partition, setUp, withUp}
-use Rattle.protocol.specs.declared.Record.{Record}
+use Rattle.protocol.specs.Tables.{fresh, isPartition, partition, setUp, withUp}
+use Rattle.protocol.specs.declared.Refusal.{Refusal}
 use Rattle.protocol.specs.declared.Refusal.the-variants.{CutFromItself, Down, IsUp, OutOfRange}
 use Rattle.protocol.specs.declared.Reply.the-variants.{None}
-use Rattle.tables.specs.View.{Sized, Stored, pack, packPartition, partitionAt, view}
+use Rattle.tables.specs.View.{Sized, pack, packPartition, partitionAt, view}
 use Rattle.tables.specs.declared.Partition.{Partition}
 use Rattle.tables.specs.declared.Tables.{Tables}
 use Rattle.answers.specs.Called.{Ready, acceptedWith, called, refusedWith, stored}
 use Rattle.answers.specs.declared.Answered.{Answered}
-use Rattle.losses.specs.Lost.{emptiesOf, relapsesOf}
+use Rattle.losses.specs.Lost.{lost}
+use Rattle.losses.specs.declared.Loss.{Loss}
 use Rattle.losses.specs.declared.Loss.the-variants.{Crash, Cut}
+use Rattle.faults.specs.Suffered.{suffered}
+use Rattle.faults.specs.declared.Fault.{Fault}
+use Rattle.faults.specs.declared.Fault.the-variants.{Loses, Refused}
 use Rattle.lists.proofs.Tests.{and-right, both-true}
-use Rattle.protocol.proofs.Losses.{count-lose}
-use Rattle.tables.proofs.Packs.{view-pack}
 use Rattle.answers.proofs.Applied.{changed-to}
 use Rattle.answers.specs.Change.{applied, changesWith}
 use Rattle.answers.specs.declared.changes.Change.{Change}
 use Rattle.tables.proofs.Stored.{partition-stored}
-use Rattle.answers.proofs.Ways.{accepts, passes, read-up, ready-count, ready-stored, ready-test, ready-there, ready-view, refuses}
+use Rattle.answers.proofs.Ways.{accepts, passes, read-up, ready-stored, ready-test, ready-there, refuses}
+
+-- whether partition p is up, which was told as b
+told : (t : Tables) (z : Sized t) (r : Ready t) (p : ℕ) → p < t .count → (b : Bool) → b ≡ partitionAt t p .up → partition (view t) p .up ≡ b
+told t z r p h b e = read-up t p z r h (partitionAt t p) refl ∙ sym e
 
 module _ (t : Tables) (z : Sized t) (r : Ready t) (a : Answered) where
   -- ---- whether partitions are there; b is the test of p
@@ -74,30 +80,30 @@ module _ (t : Tables) (z : Sized t) (r : Ready t) (a : Answered) where
       down : bothUp ≡ false → a ≡ refusedWith t Down → Goal
       down d w = onwards (w ∙ refuses t _ Down _ _ refl d)
 
-      pub cut-down : (x : Partition) → x ≡ partitionAt t p → x .up ≡ false → a ≡ refusedWith t Down → Goal
-      cut-down x e f w = down (rw (read-up t p z r h x e, f) refl) w
+      pub cut-down : (b : Bool) → b ≡ partitionAt t p .up → b ≡ false → a ≡ refusedWith t Down → Goal
+      cut-down b e f w = down (rw (told t z r p h b e, f) refl) w
 
-      pub cut-far-down : (y : Partition) → y ≡ partitionAt t q → y .up ≡ false → a ≡ refusedWith t Down → Goal
-      cut-far-down y e f w = down (rw (read-up t q z r g y e, f) (and-false (partition (view t) p .up))) w
+      pub cut-far-down : (b : Bool) → b ≡ partitionAt t q .up → b ≡ false → a ≡ refusedWith t Down → Goal
+      cut-far-down b e f w = down (rw (told t z r q g b e, f) (and-false (partition (view t) p .up))) w
 
-      pub cut-done : (x y : Partition) (u : Tables) → x ≡ partitionAt t p → x .up ≡ true → y ≡ partitionAt t q → y .up ≡ true
-          → u ≡ pack (lose (relapsesOf (Cut p q)) (emptiesOf (Cut p q)) (view t)) → a ≡ acceptedWith u 0 None → Goal
-      cut-done x y u e c f d v w = onwards (w ∙ accepts t u 0 None _ v ∙ passes t _ Down _ _ (both-true (read-up t p z r h x e ∙ c) (read-up t q z r g y f ∙ d)))
+      pub cut-done : (b c : Bool) → b ≡ partitionAt t p .up → b ≡ true → c ≡ partitionAt t q .up → c ≡ true → a ≡ acceptedWith (pack (lost (Cut p q) (view t))) 0 None → Goal
+      unfolding lost
+      cut-done b c e k f d w = onwards (w ∙ accepts t _ 0 None _ refl ∙ passes t _ Down _ _ (both-true (told t z r p h b e ∙ k) (told t z r q g c f ∙ d)))
 
-  -- ---- crash and recover of partition p, which was read as x
+  -- ---- crash of partition p, which is up or not by the test b
+
+  module _ (p : ℕ) (h : p < t .count) (b : Bool) (e : b ≡ partitionAt t p .up) where
+    pub crash-down : b ≡ false → a ≡ refusedWith t Down → a ≡ stored t (crash (view t) p)
+    unfolding crash
+    crash-down d w = w ∙ refuses t _ Down _ _ refl (told t z r p h b e ∙ d) ∙ passes t _ OutOfRange _ _ (ready-there t p z r h)
+
+    pub crash-done : b ≡ true → a ≡ acceptedWith (pack (lost (Crash p) (view t))) 0 None → a ≡ stored t (crash (view t) p)
+    unfolding crash lost
+    crash-done d w = w ∙ accepts t _ 0 None _ refl ∙ passes t _ Down _ _ (told t z r p h b e ∙ d) ∙ passes t _ OutOfRange _ _ (ready-there t p z r h)
+
+  -- ---- recover of partition p, which was read as x
 
   module _ (p : ℕ) (h : p < t .count) (x : Partition) (e : x ≡ partitionAt t p) where
-    pub crash-down : x .up ≡ false → a ≡ refusedWith t Down → a ≡ stored t (crash (view t) p)
-    unfolding crash
-    crash-down d w = w ∙ refuses t _ Down _ _ refl (read-up t p z r h x e ∙ d) ∙ passes t _ OutOfRange _ _ (ready-there t p z r h)
-
-    pub crash-done : (u v : Tables) → x .up ≡ true → u ≡ pack (lose (relapsesOf (Crash p)) (emptiesOf (Crash p)) (view t))
-        → v ≡ pack (setUp (view u) p false) → a ≡ acceptedWith v 0 None → a ≡ stored t (crash (view t) p)
-    unfolding crash
-    crash-done u v c k l w =
-        let s : v ≡ pack (setUp (lose (relapsesOf (Crash p)) (emptiesOf (Crash p)) (view t)) p false) = l ∙ ap (λ (m : Model). pack (setUp m p false)) (ap view k ∙ view-pack _) in
-        w ∙ accepts t v 0 None _ s ∙ passes t _ Down _ _ (read-up t p z r h x e ∙ c) ∙ passes t _ OutOfRange _ _ (ready-there t p z r h)
-
     pub recover-up : x .up ≡ true → a ≡ refusedWith t IsUp → a ≡ stored t (recover (view t) p)
     unfolding recover
     recover-up d w = w ∙ refuses t _ IsUp _ _ refl (ap not (read-up t p z r h x e ∙ d)) ∙ passes t _ OutOfRange _ _ (ready-there t p z r h)
@@ -112,13 +118,14 @@ module _ (t : Tables) (z : Sized t) (r : Ready t) (p : ℕ) (h : p < t .count) (
       changed-to t p (ready-stored t p z r h) _ (withUp true (partition (view t) p)) (rw k refl) 0 None c w
       ∙ passes t _ IsUp _ _ (ap not (read-up t p z r h x e ∙ d)) ∙ passes t _ OutOfRange _ _ (ready-there t p z r h)
 
--- what is lost leaves tables in their stored form
-pub lost-stored : (t u : Tables) (p : ℕ) (f : ℕ → Record → Bool) (g : ℕ → ℕ → Bool) → Sized t → Ready t → p < t .count → u ≡ pack (lose f g (view t)) → Stored u p
-unfolding pack
-lost-stored t u p f g z r h e =
-    let v : view u ≡ lose f g (view t) = ap view e ∙ view-pack (lose f g (view t)) in
-    let n : u .count ≡ t .count = ap (λ (w : Tables). w .count) e ∙ count-lose f g (view t) ∙ ready-view t z r in
-    record { packed = ap pack v ∙ sym e; count = rw n (ready-count t z r); inside = rw n h }
+-- ---- what a fault does is stored
+
+module _ (t : Tables) (a : Answered) (f : Fault) where
+  pub suffers-refusal : (why : Refusal) → f ≡ Refused why → a ≡ refusedWith t why → a ≡ suffered t f
+  suffers-refusal why e w = rw e w
+
+  pub suffers-loss : (loss : Loss) (u : Tables) → f ≡ Loses loss → u ≡ pack (lost loss (view t)) → a ≡ acceptedWith u 0 None → a ≡ suffered t f
+  suffers-loss loss u e g w = rw (e, ← g) w
 
 -- ---- open, by the test b of the count
 
@@ -143,7 +150,9 @@ pub ruleset cuts = (cut-outside, cut-beyond, cut-itself, ne-eqb)
 
 pub ruleset cuts-there = (cut-down, cut-far-down, cut-done)
 
-pub ruleset crashes = (crash-outside, crash-down, crash-done, lost-stored)
+pub ruleset crashes = (crash-outside, crash-down, crash-done)
+
+pub ruleset suffering = (suffers-refusal, suffers-loss)
 
 pub ruleset recovers = (recover-outside, recover-up, recover-done)
 

@@ -8,6 +8,8 @@ ghost use Rattle.protocol.specs.Faults.{crash, cut, recover};
 ghost use Rattle.tables.specs.View.{partitionAt, view};
 ghost use Rattle.answers.specs.Called.{Ready, stored};
 ghost use Rattle.answers.specs.Change.{Applies, applied};
+ghost use Rattle.faults.specs.Suffered.{suffered};
+use advances::is_up;
 use answers::Answered;
 use answers::accepted;
 use answers::changes::Change;
@@ -22,68 +24,96 @@ use protocol::Reply;
 use tables::MAX_PARTITIONS;
 use tables::Partition;
 use tables::Tables;
-use tables::stores;
+
+// What a cut or a crash does: it is refused, or something is lost.
+pub enum Fault {
+    Refused(Refusal),
+    Loses(Loss),
+}
+
+fn suffer(t: Tables, fault: Fault) -> Answered
+    requires { ⌜ Ready t ⌝ }
+    ensures { λ x. ⌜ x ≡ suffered t fault ⌝ }
+{
+    match fault {
+        Fault::Refused(why) => refused(t, why),
+        Fault::Loses(loss) => {
+            let lost = losses::lose(loss, t);
+            accepted(lost, 0, Reply::None)
+        }
+    }
+}
 
 // ---- cut
 
 // Both partitions are there, and they are two.
-fn cut_there(t: Tables, a: usize, b: usize) -> Answered
+fn cut_there(t: Tables, a: usize, b: usize) -> Fault
     requires { ⌜ Ready t × (a < t .count) × (b < t .count) × (a < maxPartitions) × (b < maxPartitions) × (eqb a b ≡ false) ⌝ }
-    ensures { λ x. ⌜ x ≡ stored t (cut (view t) a b) ⌝ }
+    ensures { λ x. ⌜ suffered t x ≡ stored t (cut (view t) a b) ⌝ }
 {
-    let x = t.partitions[a];
-    if x.up {} else {
-        return refused(t, Refusal::Down);
+    if is_up(t, a) {} else {
+        return Fault::Refused(Refusal::Down);
     }
-    let y = t.partitions[b];
-    if y.up {} else {
-        return refused(t, Refusal::Down);
+    if is_up(t, b) {} else {
+        return Fault::Refused(Refusal::Down);
     }
-    let loss = Loss::Cut(a, b);
-    let lost = losses::lose(loss, t);
-    accepted(lost, 0, Reply::None)
+    Fault::Loses(Loss::Cut(a, b))
+}
+
+// What the cut does: it is for who stores it.
+pub fn cut_fault(t: Tables, a: u32, b: u32) -> Fault
+    requires { ⌜ Ready t ⌝ }
+    ensures { λ x. ⌜ suffered t x ≡ stored t (cut (view t) a b) ⌝ }
+{
+    if is_there(t.count, a) {} else {
+        return Fault::Refused(Refusal::OutOfRange);
+    }
+    if is_there(t.count, b) {} else {
+        return Fault::Refused(Refusal::OutOfRange);
+    }
+    if a == b {
+        return Fault::Refused(Refusal::CutFromItself);
+    }
+    cut_there(t, a as usize, b as usize)
 }
 
 pub fn cut_in_order(t: Tables, a: u32, b: u32) -> Answered
     requires { ⌜ Ready t ⌝ }
     ensures { λ x. ⌜ x ≡ stored t (cut (view t) a b) ⌝ }
 {
-    if is_there(t.count, a) {} else {
-        return refused(t, Refusal::OutOfRange);
-    }
-    if is_there(t.count, b) {} else {
-        return refused(t, Refusal::OutOfRange);
-    }
-    if a == b {
-        return refused(t, Refusal::CutFromItself);
-    }
-    cut_there(t, a as usize, b as usize)
+    let fault = cut_fault(t, a, b);
+    suffer(t, fault)
 }
 
 // ---- crash
 
-fn crash_there(t: Tables, p: usize) -> Answered
+fn crash_there(t: Tables, p: usize) -> Fault
     requires { ⌜ Ready t × (p < t .count) × (p < maxPartitions) ⌝ }
-    ensures { λ x. ⌜ x ≡ stored t (crash (view t) p) ⌝ }
+    ensures { λ x. ⌜ suffered t x ≡ stored t (crash (view t) p) ⌝ }
 {
-    let x = t.partitions[p];
-    if x.up {} else {
-        return refused(t, Refusal::Down);
+    if is_up(t, p) {} else {
+        return Fault::Refused(Refusal::Down);
     }
-    let loss = Loss::Crash(p);
-    let lost = losses::lose(loss, t);
-    let down = stores::with_up(lost, p, false);
-    accepted(down, 0, Reply::None)
+    Fault::Loses(Loss::Crash(p))
+}
+
+// What the crash does: it is for who stores it.
+pub fn crash_fault(t: Tables, p: u32) -> Fault
+    requires { ⌜ Ready t ⌝ }
+    ensures { λ x. ⌜ suffered t x ≡ stored t (crash (view t) p) ⌝ }
+{
+    if is_there(t.count, p) {} else {
+        return Fault::Refused(Refusal::OutOfRange);
+    }
+    crash_there(t, p as usize)
 }
 
 pub fn crash_in_order(t: Tables, p: u32) -> Answered
     requires { ⌜ Ready t ⌝ }
     ensures { λ x. ⌜ x ≡ stored t (crash (view t) p) ⌝ }
 {
-    if is_there(t.count, p) {} else {
-        return refused(t, Refusal::OutOfRange);
-    }
-    crash_there(t, p as usize)
+    let fault = crash_fault(t, p);
+    suffer(t, fault)
 }
 
 // ---- recover

@@ -1,18 +1,18 @@
 // What a cut or a crash loses: records that relapse to ready, and queues that empty (document 01, 'The nine events', 6 and 7).
-ghost use mathlib.Core.Bool.{_&&_};
+ghost use mathlib.Core.Bool.{_&&_, not};
 ghost use mathlib.Core.List.{map};
 ghost use mathlib.Core.Path.{_≡_};
-ghost use Prim.Native.Nat.{_<_, _≤_};
+ghost use Prim.Native.Nat.{_≤_};
 ghost use lib.Dec.{eqb};
 ghost use Rattle.lists.specs.Lists.{mapFrom, mapIf, pad, pick};
 ghost use Rattle.protocol.specs.Bounds.{maxPartitions, maxRecords};
 ghost use Rattle.protocol.specs.Elements.{isSent};
-ghost use Rattle.protocol.specs.Faults.{between, drained, fallsWith, lose, relapsed, sentBetween, touches};
+ghost use Rattle.protocol.specs.Faults.{between, fallsWith, sentBetween, touches};
 ghost use Rattle.protocol.specs.Tables.{inStage};
 ghost use Rattle.protocol.specs.declared.Stage.the-variants.{Ready as ReadyStage};
-ghost use Rattle.tables.specs.View.{pack, packPartition, packQueue, packRecords, recordsOf, view, viewPartition, zeroPartition};
+ghost use Rattle.tables.specs.View.{pack, packPartition, packRecords, recordsOf, view, viewPartition, zeroPartition};
 ghost use Rattle.answers.specs.Called.{Ready};
-ghost use Rattle.losses.specs.Lost.{emptiesOf, relapsesOf};
+ghost use Rattle.losses.specs.Lost.{emptiesOf, lost, partitionAfter, queueAfter, relapsesOf, upAfter};
 use protocol::Record;
 use protocol::Stage;
 use tables::MAX_PARTITIONS;
@@ -139,38 +139,64 @@ fn relapse_records(loss: Loss, p: usize, l: Records) -> Records
     }
 }
 
-fn relapse_partition(loss: Loss, p: usize, x: Partition) -> Partition
-    requires { ⌜ (packPartition (viewPartition x) ≡ x) × (x .records .count ≤ maxRecords) ⌝ }
-    ensures { λ y. ⌜ y ≡ packPartition (relapsed (relapsesOf loss) p (viewPartition x)) ⌝ }
+// Whether partition p is up, if it was or not, after a crash of q.
+fn stays_up(q: usize, p: usize, up: bool) -> bool
+    ensures { λ x. ⌜ x ≡ (up && not (eqb p q)) ⌝ }
 {
+    if p == q {
+        return false;
+    }
+    up
+}
+
+// Whether partition p is up after the loss.
+fn up_after(loss: Loss, p: usize, up: bool) -> bool
+    ensures { λ x. ⌜ x ≡ upAfter loss p up ⌝ }
+{
+    match loss {
+        Loss::Cut(a, b) => up,
+        Loss::Crash(q) => stays_up(q, p, up),
+    }
+}
+
+fn partition_after(loss: Loss, p: usize, x: Partition) -> Partition
+    requires { ⌜ (packPartition (viewPartition x) ≡ x) × (x .records .count ≤ maxRecords) ⌝ }
+    ensures { λ y. ⌜ y ≡ packPartition (partitionAfter loss p (viewPartition x)) ⌝ }
+{
+    let up = x.up;
     let records = x.records;
     let mut next = x;
+    next.up = up_after(loss, p, up);
     next.records = relapse_records(loss, p, records);
     next
 }
 
-fn relapse(loss: Loss, t: Tables) -> [Partition; MAX_PARTITIONS]
-    requires { ⌜ Ready t × (t .count ≤ maxPartitions) ⌝ }
-    ensures { λ l. ⌜ l ≡ pad maxPartitions zeroPartition (map packPartition (mapFrom (relapsed (relapsesOf loss)) 0 (view t .partitions))) ⌝ }
+// The partitions of t, after the loss. They are handed over beside t, to be changed where they stand.
+pub fn partitions_after(
+    loss: Loss,
+    t: Tables,
+    before: [Partition; MAX_PARTITIONS],
+) -> [Partition; MAX_PARTITIONS]
+    requires { ⌜ Ready t × (before ≡ t .partitions) ⌝ }
+    ensures { λ l. ⌜ l ≡ pad maxPartitions zeroPartition (map packPartition (mapFrom (partitionAfter loss) 0 (view t .partitions))) ⌝ }
 {
     let count = t.count;
-    let mut partitions = t.partitions;
+    let mut partitions = before;
     let mut i: usize = 0;
     while i < count {
-        let x = t.partitions[i];
-        let after = relapse_partition(loss, i, x);
+        let x = partitions[i];
+        let after = partition_after(loss, i, x);
         partitions[i] = after;
         i += 1;
     }
     partitions
 }
 
-fn drain(loss: Loss, t: Tables) -> [Queue; QUEUES]
-    requires { ⌜ Ready t ⌝ }
-    ensures { λ l. ⌜ l ≡ map packQueue (mapFrom (drained (emptiesOf loss)) 0 (view t .queues)) ⌝ }
+pub fn queues_after(loss: Loss, before: [Queue; QUEUES]) -> [Queue; QUEUES]
+    ensures { λ l. ⌜ l ≡ mapFrom (queueAfter loss) 0 before ⌝ }
 {
     let none = fresh::no_messages();
-    let mut queues = t.queues;
+    let mut queues = before;
     let mut i: usize = 0;
     while i < QUEUES {
         if empties(loss, i / MAX_PARTITIONS, i % MAX_PARTITIONS) {
@@ -183,10 +209,12 @@ fn drain(loss: Loss, t: Tables) -> [Queue; QUEUES]
 
 pub fn lose(loss: Loss, t: Tables) -> Tables
     requires { ⌜ Ready t ⌝ }
-    ensures { λ u. ⌜ u ≡ pack (lose (relapsesOf loss) (emptiesOf loss) (view t)) ⌝ }
+    ensures { λ u. ⌜ u ≡ pack (lost loss (view t)) ⌝ }
 {
-    let partitions = relapse(loss, t);
-    let queues = drain(loss, t);
+    let before = t.partitions;
+    let partitions = partitions_after(loss, t, before);
+    let waiting = t.queues;
+    let queues = queues_after(loss, waiting);
     Tables {
         count: t.count,
         partitions: partitions,

@@ -84,11 +84,6 @@ module _ (t : Tables) (p : ℕ) (s : Stored t p) where
     abbrev Stores : Partition → Part → Type 0
     Stores y z = record { count = t .count; partitions = set (t .partitions) p y; queues = t .queues } ≡ pack (setPartition m p z)
 
-    pub stored-up : (u : Bool)
-        → record { count = t .count; partitions = set (t .partitions) p (record { up = u; last = x .last; entries = x .entries; backpointers = x .backpointers; records = x .records }); queues = t .queues } ≡ pack (setUp m p u)
-    unfolding setUp
-    stored-up u = set-stored _ _ (rw read refl)
-
     -- what was read is in its stored form
     pub entries-stored : packEntries (entriesOf (x .entries)) ≡ x .entries
     entries-stored = packed-entries (x .entries) (partition m p .entries) (ap (λ (y : Partition). y .entries) read)

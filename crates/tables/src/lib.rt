@@ -7,7 +7,6 @@ use protocol::Record;
 pub mod elements;
 pub mod fresh;
 pub mod reads;
-pub mod stores;
 pub mod writes;
 
 pub const MAX_PARTITIONS: usize = 4;

@@ -1,24 +1,15 @@
-use Rattle.tables.proofs.Known.{sized}
-use Rattle.answers.proofs.Ways.{now-four, now-there}
-use Rattle.faults.proofs.Faulty.{crashes}
 use borrow.Author.Needs.{needs}
 use Rattle.faults.proofs.crash_in_order.Statement.{statement}
 use Rattle.faults.proofs.crash_in_order.Tie as tie
 
-is-there-requires : tie.Need-is-there-requires
-is-there-requires c κs = search (crashes, now-there, now-four, sized, needs)
+crash-fault-requires : tie.Need-crash-fault-requires
+crash-fault-requires c κs = search needs
 
-refused-requires : tie.Need-refused-requires
-refused-requires c κs = search (crashes, now-there, now-four, sized, needs)
+suffer-requires : tie.Need-suffer-requires
+suffer-requires c κs = search needs
 
 returns : tie.Need-returns
-returns c = search (crashes, now-there, now-four, sized, needs)
-
-crash-there-requires : tie.Need-crash-there-requires
-crash-there-requires c κs = search (crashes, now-there, now-four, sized, needs)
-
-returns-2 : tie.Need-returns-2
-returns-2 c = search (crashes, now-there, now-four, sized, needs)
+returns c = cc
 
 pub crash-in-order-spec : {M : Type 1} → statement M
-crash-in-order-spec = tie.close (tie.spec is-there-requires refused-requires returns crash-there-requires returns-2)
+crash-in-order-spec = tie.close (tie.spec crash-fault-requires suffer-requires returns)

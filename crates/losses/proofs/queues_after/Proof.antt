@@ -2,14 +2,16 @@ use mathlib.Core.Logic.{⊎-elim}
 use Prim.Native.Nat.{_-_, _≤_}
 use Rattle.protocol.specs.Bounds.{queueCount}
 use Rattle.tables.proofs.Known.{sized}
+use Rattle.lists.proofs.Arrays.{length-of}
 use Rattle.lists.proofs.Mapped.{Mapping}
-use Rattle.losses.proofs.Loses.{emptying, queue-empties, queue-stays, queues-lost}
+use Rattle.losses.specs.Lost.{queueAfter}
+use Rattle.losses.proofs.Loses.{queue-empties, queue-stays, queues-lost}
 use borrow.Author.Needs.{needs}
-use Rattle.losses.proofs.drain.Statement.{statement}
-use Rattle.losses.proofs.drain.Tie as tie
+use Rattle.losses.proofs.queues_after.Statement.{statement}
+use Rattle.losses.proofs.queues_after.Tie as tie
 
 abbrev Inv-loop : tie.InvT-loop
-Inv-loop loss none queues₀ i₀ queues i = (i ≤ queueCount) × Mapping (emptying loss) queues₀ i queues
+Inv-loop loss none queues₀ i₀ queues i = (i ≤ queueCount) × Mapping (queueAfter loss) queues₀ i queues
 
 abbrev μ-loop : tie.MeasureT-loop
 μ-loop loss none queues₀ i₀ queues i = queueCount - i
@@ -45,8 +47,8 @@ loop-again c =
 returns : tie.Need-returns Inv-loop μ-loop
 returns c = search (queues-lost, sized, needs)
 
-pub drain-spec : {M : Type 1} → statement M
-drain-spec =
+pub queues-after-spec : {M : Type 1} → statement M
+queues-after-spec =
     tie.close
     (tie.spec
     Inv-loop
