@@ -1,20 +1,24 @@
-// What a command does where it changes one partition only: link, create, unlink, advance, deliver and recover. The tables are not
-// given back: who holds them stores the change where they stand. Nor are they read here but as a whole: who holds them also takes
-// out of them the partition that a command's first number names, the one that its second names, and the queue between the two.
+// What a command does where it changes one partition only (link, create, unlink, advance, deliver and recover) or loses something
+// (cut and crash). The tables are not given back: who holds them stores what is done where they stand. Nor are they read here but
+// at fixed places: who holds them also takes out of them the partition that a command's first number names, the one that its second
+// names, and the queue between the two.
 ghost use mathlib.Core.Bool.{true};
 ghost use mathlib.Core.Path.{_≡_};
 ghost use Prim.Native.Nat.{_<_};
 ghost use Rattle.protocol.specs.Ask.{ask};
 ghost use Rattle.protocol.specs.Bounds.{maxPartitions};
 ghost use Rattle.tables.specs.View.{view};
-ghost use Rattle.answers.specs.Called.{Ready, tested};
+ghost use Rattle.answers.specs.Called.{Ready, refusedWith, tested};
+ghost use Rattle.faults.specs.Suffered.{suffered};
 ghost use Rattle.rehearsal.specs.Rehearsal.{argument};
-ghost use Rattle.rehearsal.specs.declared.Verb.the-variants.{Advance, Deliver, Recover, Unlink};
-ghost use Rattle.deeds.specs.Deeds.{Does, Owns, Receives, deedWith, fitted, noDeed, placeIn};
+ghost use Rattle.rehearsal.specs.declared.Verb.the-variants.{Advance, Crash, Cut, Deliver, Recover, Unlink};
+ghost use Rattle.deeds.specs.Deeds.{Does, Owns, Receives, Unknown, deedWith, deedWithout, fitted, placeIn};
 ghost use Rattle.sessions.specs.Session.{afterEvent, responded, respondedTo};
 use answers::changes::Change;
 use answers::changes::keeps;
 use answers::is_there;
+use faults::Fault;
+use losses::Loss;
 use protocol::Kind;
 use protocol::Refusal;
 use rehearsal::Command;
@@ -27,9 +31,16 @@ use tables::Queue;
 use tables::Tables;
 use texts::answer;
 
-// Whether the command is one of these, and then its answer and its change.
+// In which way a command is done, if it is one of these: a change is stored, or something is lost.
+pub enum Way {
+    Unknown,
+    Changes,
+    Loses(Loss),
+}
+
+// The way, the answer, and the change that is stored in the one way.
 pub struct Deed {
-    pub local: bool,
+    pub way: Way,
     pub numbers: Numbers,
     pub change: Change,
 }
@@ -62,18 +73,25 @@ pub fn places_of(c: Command) -> Places
     Places { first, second }
 }
 
-// The command is none of these; the change is one that is not stored.
-fn none(t: Tables) -> Deed
-    ensures { λ d. ⌜ d ≡ noDeed t ⌝ }
+// The change is one that is not stored.
+fn without_change(way: Way, t: Tables) -> Deed
+    ensures { λ d. ⌜ d ≡ deedWithout way t ⌝ }
 {
     let x = t.partitions[0];
     let change = keeps(0, x, Refusal::OutOfOrder);
     let numbers = answer::answered(0, 0, 0);
     Deed {
-        local: false,
+        way: way,
         numbers: numbers,
         change: change,
     }
+}
+
+// The command is none of these.
+fn none(t: Tables) -> Deed
+    ensures { λ d. ⌜ d ≡ deedWithout Unknown t ⌝ }
+{
+    without_change(Way::Unknown, t)
 }
 
 fn with_change(change: Change) -> Deed
@@ -82,10 +100,20 @@ fn with_change(change: Change) -> Deed
     let answer = change.answer;
     let numbers = numbers_of(answer);
     Deed {
-        local: true,
+        way: Way::Changes,
         numbers: numbers,
         change: change,
     }
+}
+
+// A refusal changes nothing: of the first partition what it is is stored.
+fn refused(t: Tables, why: Refusal) -> Deed
+    requires { ⌜ Ready t ⌝ }
+    ensures { λ d. ⌜ Does d true t (afterEvent (refusedWith t why)) ⌝ }
+{
+    let x = t.partitions[0];
+    let change = keeps(0, x, why);
+    with_change(change)
 }
 
 // A link or a create of a partition that is there.
@@ -108,7 +136,7 @@ fn ask(kind: Kind, t: Tables, own: Partition, c: Command) -> Deed
 {
     let p = c.numbers[0];
     if is_there(t.count, p) {} else {
-        return none(t);
+        return refused(t, Refusal::OutOfRange);
     }
     ask_there(kind, t, own, c)
 }
@@ -121,7 +149,7 @@ fn unlink(t: Tables, own: Partition, c: Command) -> Deed
     let p = c.numbers[0];
     let d = c.numbers[1];
     if is_there(t.count, p) {} else {
-        return none(t);
+        return refused(t, Refusal::OutOfRange);
     }
     let change = asks::unlink_change(t, own, p, d, name);
     with_change(change)
@@ -134,7 +162,7 @@ fn advance(t: Tables, own: Partition, c: Command) -> Deed
     let p = c.numbers[0];
     let number = c.numbers[1];
     if is_there(t.count, p) {} else {
-        return none(t);
+        return refused(t, Refusal::OutOfRange);
     }
     let change = advances::advance_change(t, own, p as usize, number);
     with_change(change)
@@ -160,7 +188,7 @@ fn deliver(t: Tables, receiver: Partition, waiting: Queue, c: Command) -> Deed
     let s = c.numbers[0];
     let r = c.numbers[1];
     if deliveries::are_there(t.count, s, r) {} else {
-        return none(t);
+        return refused(t, Refusal::OutOfRange);
     }
     deliver_there(t, receiver, waiting, c)
 }
@@ -171,11 +199,44 @@ fn recover(t: Tables, own: Partition, c: Command) -> Deed
 {
     let p = c.numbers[0];
     if is_there(t.count, p) {} else {
-        return none(t);
+        return refused(t, Refusal::OutOfRange);
     }
     let change = faults::recover_change(t, own, p as usize);
     with_change(change)
 }
+
+// ---- cut and crash
+
+fn with_fault(t: Tables, fault: Fault) -> Deed
+    requires { ⌜ Ready t ⌝ }
+    ensures { λ d. ⌜ Does d true t (afterEvent (suffered t fault)) ⌝ }
+{
+    match fault {
+        Fault::Refused(why) => refused(t, why),
+        Fault::Loses(loss) => without_change(Way::Loses(loss), t),
+    }
+}
+
+fn cut(t: Tables, c: Command) -> Deed
+    requires { ⌜ Ready t ⌝ }
+    ensures { λ d. ⌜ Does d true t (respondedTo Cut c t) ⌝ }
+{
+    let a = c.numbers[0];
+    let b = c.numbers[1];
+    let fault = faults::cut_fault(t, a, b);
+    with_fault(t, fault)
+}
+
+fn crash(t: Tables, c: Command) -> Deed
+    requires { ⌜ Ready t ⌝ }
+    ensures { λ d. ⌜ Does d true t (respondedTo Crash c t) ⌝ }
+{
+    let p = c.numbers[0];
+    let fault = faults::crash_fault(t, p);
+    with_fault(t, fault)
+}
+
+// ---- any command
 
 fn done_to(
     verb: Verb,
@@ -196,8 +257,8 @@ fn done_to(
         Verb::Unlink => unlink(t, own, c),
         Verb::Advance => advance(t, own, c),
         Verb::Deliver => deliver(t, receiver, waiting, c),
-        Verb::Cut => none(t),
-        Verb::Crash => none(t),
+        Verb::Cut => cut(t, c),
+        Verb::Crash => crash(t, c),
         Verb::Recover => recover(t, own, c),
         Verb::Settle => none(t),
         Verb::Totals => none(t),
@@ -207,7 +268,7 @@ fn done_to(
 }
 
 // The order is tested for these commands only: `respond` tests it for the others.
-fn is_local(verb: Verb) -> bool {
+fn is_known(verb: Verb) -> bool {
     match verb {
         Verb::Open => false,
         Verb::Link => true,
@@ -215,8 +276,8 @@ fn is_local(verb: Verb) -> bool {
         Verb::Unlink => true,
         Verb::Advance => true,
         Verb::Deliver => true,
-        Verb::Cut => false,
-        Verb::Crash => false,
+        Verb::Cut => true,
+        Verb::Crash => true,
         Verb::Recover => true,
         Verb::Settle => false,
         Verb::Totals => false,
@@ -241,7 +302,7 @@ pub fn deed_of(
         return none(t);
     }
     let verb = c.verb;
-    if is_local(verb) {} else {
+    if is_known(verb) {} else {
         return none(t);
     }
     if order::in_order(t) {} else {

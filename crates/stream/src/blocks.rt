@@ -12,6 +12,9 @@ ghost use Rattle.feeding.specs.Sessions.{atStart, sessions};
 ghost use Rattle.stream.specs.Keeping.{lineOf, midwayOf};
 use answers::changes::sent_if;
 use answers::changes::taken_if;
+use deeds::Way;
+use losses::partitions_after;
+use losses::queues_after;
 use rehearsal::Command;
 use rehearsal::LF;
 use rehearsal::LINE_BYTES;
@@ -113,8 +116,8 @@ pub fn has_begun(k: Kept) -> bool
     0 < k.line.len
 }
 
-// Every byte of a block, in order; the answers stand in the lent room from its start. Of a command that changes one partition the
-// change is stored here, where the tables are: to hand them on and back would take longer than the command.
+// Every byte of a block, in order; the answers stand in the lent room from its start. A change of one partition, and what a cut or
+// a crash leaves, is stored here, where the tables are: to hand them on and back would take longer than the command.
 pub fn feed(k: Kept, block: &[u8], out: &mut [u8]) -> Fed
     requires { ⌜ length (now block) * longestAnswer ≤ length (now out) ⌝ }
     ensures { λ r. ⌜ midwayOf (r .kept) ≡ fed sessions (midwayOf k) (now (block .entry)) ⌝ }
@@ -141,30 +144,43 @@ pub fn feed(k: Kept, block: &[u8], out: &mut [u8]) -> Fed
             let receiver = tables.partitions[second];
             let waiting = tables.queues[first * MAX_PARTITIONS + second];
             let deed = deeds::deed_of(running, tables, own, receiver, waiting, command);
-            if deed.local {
-                let change = deed.change;
-                let at = change.at;
-                let other = change.other;
-                let x = change.partition;
-                tables.partitions[at] = x;
-                let from = tables.queues[other * MAX_PARTITIONS + at];
-                let rest = taken_if(change.takes, from);
-                tables.queues[other * MAX_PARTITIONS + at] = rest;
-                let to = tables.queues[at * MAX_PARTITIONS + other];
-                let message = change.message;
-                let more = sent_if(change.sends, to, message);
-                tables.queues[at * MAX_PARTITIONS + other] = more;
-                place = put_answer(out, place, lines, deed.numbers);
-            } else {
-                let session = Session {
-                    open: running,
-                    tables: tables,
-                };
-                let response = sessions::respond(session, command);
-                place = put_answer(out, place, lines, response.numbers);
-                let next = response.session;
-                running = next.open;
-                tables = next.tables;
+            let way = deed.way;
+            match way {
+                Way::Changes => {
+                    let change = deed.change;
+                    let at = change.at;
+                    let other = change.other;
+                    let x = change.partition;
+                    tables.partitions[at] = x;
+                    let from = tables.queues[other * MAX_PARTITIONS + at];
+                    let rest = taken_if(change.takes, from);
+                    tables.queues[other * MAX_PARTITIONS + at] = rest;
+                    let to = tables.queues[at * MAX_PARTITIONS + other];
+                    let message = change.message;
+                    let more = sent_if(change.sends, to, message);
+                    tables.queues[at * MAX_PARTITIONS + other] = more;
+                    place = put_answer(out, place, lines, deed.numbers);
+                }
+                Way::Loses(loss) => {
+                    let before = tables.partitions;
+                    let partitions = partitions_after(loss, tables, before);
+                    tables.partitions = partitions;
+                    let waited = tables.queues;
+                    let queues = queues_after(loss, waited);
+                    tables.queues = queues;
+                    place = put_answer(out, place, lines, deed.numbers);
+                }
+                Way::Unknown => {
+                    let session = Session {
+                        open: running,
+                        tables: tables,
+                    };
+                    let response = sessions::respond(session, command);
+                    place = put_answer(out, place, lines, response.numbers);
+                    let next = response.session;
+                    running = next.open;
+                    tables = next.tables;
+                }
             }
         } else {
             line = with_byte(line, b);

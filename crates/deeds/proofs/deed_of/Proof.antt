@@ -11,8 +11,8 @@ none-requires c κs = search (none-done, session-done, now-ready, sized, needs)
 returns : tie.Need-returns
 returns c = search (none-done, session-done, now-ready, sized, needs)
 
-is-local-requires : tie.Need-is-local-requires
-is-local-requires c κs = search (none-done, session-done, now-ready, sized, needs)
+is-known-requires : tie.Need-is-known-requires
+is-known-requires c κs = search (none-done, session-done, now-ready, sized, needs)
 
 none-requires-2 : tie.Need-none-requires-2
 none-requires-2 c κs = search (none-done, session-done, now-ready, sized, needs)
@@ -41,7 +41,7 @@ deed-of-spec =
     (tie.spec
     none-requires
     returns
-    is-local-requires
+    is-known-requires
     none-requires-2
     returns-2
     in-order-requires

@@ -1,4 +1,4 @@
-use Rattle.deeds.proofs.Doing.{none-done}
+use Rattle.deeds.proofs.Doing.{deliver-beyond}
 use Rattle.deliveries.proofs.Delivers.{pairs, receiver-there, sender-there}
 use Rattle.answers.proofs.Ways.{read-four}
 use Rattle.tables.proofs.Known.{sized}
@@ -7,19 +7,19 @@ use Rattle.deeds.proofs.deliver.Statement.{statement}
 use Rattle.deeds.proofs.deliver.Tie as tie
 
 element-copy-out-s : tie.Need-element-copy-out-s
-element-copy-out-s c = search (none-done, pairs, sized, needs)
+element-copy-out-s c = search (deliver-beyond, pairs, sized, needs)
 
 element-copy-out-r : tie.Need-element-copy-out-r
-element-copy-out-r c = search (none-done, pairs, sized, needs)
+element-copy-out-r c = search (deliver-beyond, pairs, sized, needs)
 
 are-there-requires : tie.Need-are-there-requires
-are-there-requires c κs = search (none-done, pairs, sized, needs)
+are-there-requires c κs = search (deliver-beyond, pairs, sized, needs)
 
-none-requires : tie.Need-none-requires
-none-requires c κs = search (none-done, pairs, sized, needs)
+refused-requires : tie.Need-refused-requires
+refused-requires c κs = search (deliver-beyond, pairs, sized, needs)
 
 returns : tie.Need-returns
-returns c = search (none-done, pairs, sized, needs)
+returns c = search (deliver-beyond, pairs, sized, needs)
 
 deliver-there-requires : tie.Need-deliver-there-requires
 deliver-there-requires c κs = (
@@ -34,7 +34,7 @@ deliver-there-requires c κs = (
 )
 
 returns-2 : tie.Need-returns-2
-returns-2 c = search (none-done, pairs, sized, needs)
+returns-2 c = search (deliver-beyond, pairs, sized, needs)
 
 pub deliver-spec : {M : Type 1} → statement M
 deliver-spec =
@@ -43,7 +43,7 @@ deliver-spec =
     element-copy-out-s
     element-copy-out-r
     are-there-requires
-    none-requires
+    refused-requires
     returns
     deliver-there-requires
     returns-2)

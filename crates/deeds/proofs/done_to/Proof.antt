@@ -43,14 +43,14 @@ deliver-requires c κs = search (verbs-done, sized, needs)
 enum-told-7 : tie.Need-enum-told-7
 enum-told-7 c = search (verbs-done, sized, needs)
 
-none-requires-2 : tie.Need-none-requires-2
-none-requires-2 c κs = search (verbs-done, sized, needs)
+cut-requires : tie.Need-cut-requires
+cut-requires c κs = search (verbs-done, sized, needs)
 
 enum-told-8 : tie.Need-enum-told-8
 enum-told-8 c = search (verbs-done, sized, needs)
 
-none-requires-3 : tie.Need-none-requires-3
-none-requires-3 c κs = search (verbs-done, sized, needs)
+crash-requires : tie.Need-crash-requires
+crash-requires c κs = search (verbs-done, sized, needs)
 
 enum-told-9 : tie.Need-enum-told-9
 enum-told-9 c = search (verbs-done, sized, needs)
@@ -61,26 +61,26 @@ recover-requires c κs = search (verbs-done, sized, needs)
 enum-told-10 : tie.Need-enum-told-10
 enum-told-10 c = search (verbs-done, sized, needs)
 
-none-requires-4 : tie.Need-none-requires-4
-none-requires-4 c κs = search (verbs-done, sized, needs)
+none-requires-2 : tie.Need-none-requires-2
+none-requires-2 c κs = search (verbs-done, sized, needs)
 
 enum-told-11 : tie.Need-enum-told-11
 enum-told-11 c = search (verbs-done, sized, needs)
 
-none-requires-5 : tie.Need-none-requires-5
-none-requires-5 c κs = search (verbs-done, sized, needs)
+none-requires-3 : tie.Need-none-requires-3
+none-requires-3 c κs = search (verbs-done, sized, needs)
 
 enum-told-12 : tie.Need-enum-told-12
 enum-told-12 c = search (verbs-done, sized, needs)
 
-none-requires-6 : tie.Need-none-requires-6
-none-requires-6 c κs = search (verbs-done, sized, needs)
+none-requires-4 : tie.Need-none-requires-4
+none-requires-4 c κs = search (verbs-done, sized, needs)
 
 enum-told-13 : tie.Need-enum-told-13
 enum-told-13 c = search (verbs-done, sized, needs)
 
-none-requires-7 : tie.Need-none-requires-7
-none-requires-7 c κs = search (verbs-done, sized, needs)
+none-requires-5 : tie.Need-none-requires-5
+none-requires-5 c κs = search (verbs-done, sized, needs)
 
 returns : tie.Need-returns
 returns c = search (verbs-done, sized, needs)
@@ -138,19 +138,19 @@ done-to-spec =
     enum-told-6
     deliver-requires
     enum-told-7
-    none-requires-2
+    cut-requires
     enum-told-8
-    none-requires-3
+    crash-requires
     enum-told-9
     recover-requires
     enum-told-10
-    none-requires-4
+    none-requires-2
     enum-told-11
-    none-requires-5
+    none-requires-3
     enum-told-12
-    none-requires-6
+    none-requires-4
     enum-told-13
-    none-requires-7
+    none-requires-5
     returns
     returns-2
     returns-3

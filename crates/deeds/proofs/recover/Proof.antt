@@ -1,4 +1,4 @@
-use Rattle.deeds.proofs.Doing.{none-done, recover-done, taken-own}
+use Rattle.deeds.proofs.Doing.{recover-beyond, recover-done, taken-own}
 use Rattle.answers.proofs.Ways.{now-four, now-there}
 use Rattle.tables.proofs.Known.{sized}
 use borrow.Author.Needs.{needs}
@@ -6,19 +6,19 @@ use Rattle.deeds.proofs.recover.Statement.{statement}
 use Rattle.deeds.proofs.recover.Tie as tie
 
 element-copy-out-p : tie.Need-element-copy-out-p
-element-copy-out-p c = search (none-done, recover-done, now-there, now-four, sized, needs)
+element-copy-out-p c = search (recover-beyond, recover-done, now-there, now-four, sized, needs)
 
 is-there-requires : tie.Need-is-there-requires
-is-there-requires c κs = search (none-done, recover-done, now-there, now-four, sized, needs)
+is-there-requires c κs = search (recover-beyond, recover-done, now-there, now-four, sized, needs)
 
-none-requires : tie.Need-none-requires
-none-requires c κs = search (none-done, recover-done, now-there, now-four, sized, needs)
+refused-requires : tie.Need-refused-requires
+refused-requires c κs = search (recover-beyond, recover-done, now-there, now-four, sized, needs)
 
 returns : tie.Need-returns
-returns c = search (none-done, recover-done, now-there, now-four, sized, needs)
+returns c = search (recover-beyond, recover-done, now-there, now-four, sized, needs)
 
 cast-recover-change : tie.Need-cast-recover-change
-cast-recover-change c = search (none-done, recover-done, now-there, now-four, sized, needs)
+cast-recover-change c = search (recover-beyond, recover-done, now-there, now-four, sized, needs)
 
 recover-change-requires : tie.Need-recover-change-requires
 recover-change-requires c κs = (
@@ -29,10 +29,10 @@ recover-change-requires c κs = (
 )
 
 with-change-requires : tie.Need-with-change-requires
-with-change-requires c κs = search (none-done, recover-done, now-there, now-four, sized, needs)
+with-change-requires c κs = search (recover-beyond, recover-done, now-there, now-four, sized, needs)
 
 returns-2 : tie.Need-returns-2
-returns-2 c = search (none-done, recover-done, now-there, now-four, sized, needs)
+returns-2 c = search (recover-beyond, recover-done, now-there, now-four, sized, needs)
 
 pub recover-spec : {M : Type 1} → statement M
 recover-spec =
@@ -40,7 +40,7 @@ recover-spec =
     (tie.spec
     element-copy-out-p
     is-there-requires
-    none-requires
+    refused-requires
     returns
     cast-recover-change
     recover-change-requires

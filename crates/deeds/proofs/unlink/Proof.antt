@@ -1,4 +1,4 @@
-use Rattle.deeds.proofs.Doing.{none-done, taken-own, unlink-done}
+use Rattle.deeds.proofs.Doing.{taken-own, unlink-beyond, unlink-done}
 use Rattle.answers.proofs.Ways.{now-four, now-there}
 use Rattle.tables.proofs.Known.{sized}
 use borrow.Author.Needs.{needs}
@@ -6,19 +6,19 @@ use Rattle.deeds.proofs.unlink.Statement.{statement}
 use Rattle.deeds.proofs.unlink.Tie as tie
 
 element-copy-out-p : tie.Need-element-copy-out-p
-element-copy-out-p c = search (none-done, unlink-done, now-there, now-four, sized, needs)
+element-copy-out-p c = search (unlink-beyond, unlink-done, now-there, now-four, sized, needs)
 
 element-copy-out-d : tie.Need-element-copy-out-d
-element-copy-out-d c = search (none-done, unlink-done, now-there, now-four, sized, needs)
+element-copy-out-d c = search (unlink-beyond, unlink-done, now-there, now-four, sized, needs)
 
 is-there-requires : tie.Need-is-there-requires
-is-there-requires c κs = search (none-done, unlink-done, now-there, now-four, sized, needs)
+is-there-requires c κs = search (unlink-beyond, unlink-done, now-there, now-four, sized, needs)
 
-none-requires : tie.Need-none-requires
-none-requires c κs = search (none-done, unlink-done, now-there, now-four, sized, needs)
+refused-requires : tie.Need-refused-requires
+refused-requires c κs = search (unlink-beyond, unlink-done, now-there, now-four, sized, needs)
 
 returns : tie.Need-returns
-returns c = search (none-done, unlink-done, now-there, now-four, sized, needs)
+returns c = search (unlink-beyond, unlink-done, now-there, now-four, sized, needs)
 
 unlink-change-requires : tie.Need-unlink-change-requires
 unlink-change-requires c κs = (
@@ -28,10 +28,10 @@ unlink-change-requires c κs = (
 )
 
 with-change-requires : tie.Need-with-change-requires
-with-change-requires c κs = search (none-done, unlink-done, now-there, now-four, sized, needs)
+with-change-requires c κs = search (unlink-beyond, unlink-done, now-there, now-four, sized, needs)
 
 returns-2 : tie.Need-returns-2
-returns-2 c = search (none-done, unlink-done, now-there, now-four, sized, needs)
+returns-2 c = search (unlink-beyond, unlink-done, now-there, now-four, sized, needs)
 
 pub unlink-spec : {M : Type 1} → statement M
 unlink-spec =
@@ -40,7 +40,7 @@ unlink-spec =
     element-copy-out-p
     element-copy-out-d
     is-there-requires
-    none-requires
+    refused-requires
     returns
     unlink-change-requires
     with-change-requires

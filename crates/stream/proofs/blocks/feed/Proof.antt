@@ -1,10 +1,11 @@
-use Rattle.stream.proofs.Feeding.{Feeding, feed-deed, feed-kept, feed-line, feed-room, feed-said, feeding, from-most, from-packed, from-takes, one-less, partition-named, queue-named, to-packed, to-sends}
+use Rattle.stream.proofs.Feeding.{Feeding, feed-deed, feed-kept, feed-line, feed-loss, feed-room, feed-said, feeding, from-most, from-packed, from-takes, one-less, partition-named, queue-named, to-packed, to-sends}
 use Rattle.answers.proofs.Applied.{change-stores}
 use Rattle.feeding.specs.Feed.{midway}
 use Rattle.stream.specs.Keeping.{lineOf}
 use Prim.Native.Nat.{_-_}
 use mathlib.Core.Path.{refl}
 use lib.ListN.{length}
+use Rattle.losses.proofs.Loses.{tables-left}
 use borrow.Author.Needs.{needs}
 use Rattle.stream.proofs.blocks.feed.Statement.{statement}
 use Rattle.stream.proofs.blocks.feed.Tie as tie
@@ -70,6 +71,9 @@ deed-of-requires c κs = (
   ),
 )
 
+enum-told : tie.Need-enum-told Inv-loop μ-loop
+enum-told c = search (feeding, needs)
+
 mul-x : tie.Need-mul-x Inv-loop μ-loop
 mul-x c = search (feeding, needs)
 
@@ -90,9 +94,9 @@ element-copy-out-from c = search (feeding, needs)
 
 taken-if-requires : tie.Need-taken-if-requires Inv-loop μ-loop
 taken-if-requires c κs = (
-  search (from-packed, needs),
-  search (from-most, needs),
-  search (from-takes, needs),
+  from-packed _ _ _ _ (c .before .before .before .before .before .deed-of .ensures) (c .before .before .before .enum-told .given .1) _ refl,
+  from-most _ _ _ _ (c .before .before .before .before .before .deed-of .ensures) (c .before .before .before .enum-told .given .1) _ refl,
+  from-takes _ _ _ _ (c .before .before .before .before .before .deed-of .ensures) (c .before .before .before .enum-told .given .1) _ refl,
 )
 
 mul-rest : tie.Need-mul-rest Inv-loop μ-loop
@@ -121,8 +125,8 @@ element-copy-out-to c = search (feeding, needs)
 
 sent-if-requires : tie.Need-sent-if-requires Inv-loop μ-loop
 sent-if-requires c κs = (
-  to-packed _ _ _ _ (c .before .before .before .before .before .before .before .deed-of .ensures) (c .before .before .before .before .before .before .if2 .taken) _ refl _ (c .before .before .taken-if .ensures) _ refl,
-  to-sends _ _ _ _ (c .before .before .before .before .before .before .before .deed-of .ensures) (c .before .before .before .before .before .before .if2 .taken) _ refl _ (c .before .before .taken-if .ensures) _ refl,
+  to-packed _ _ _ _ (c .before .before .before .before .before .before .before .before .deed-of .ensures) (c .before .before .before .before .before .before .enum-told .given .1) _ refl _ (c .before .before .taken-if .ensures) _ refl,
+  to-sends _ _ _ _ (c .before .before .before .before .before .before .before .before .deed-of .ensures) (c .before .before .before .before .before .before .enum-told .given .1) _ refl _ (c .before .before .taken-if .ensures) _ refl,
 )
 
 mul-more : tie.Need-mul-more Inv-loop μ-loop
@@ -138,53 +142,84 @@ element-set-from-more : tie.Need-element-set-from-more Inv-loop μ-loop
 element-set-from-more c = search (feeding, needs)
 
 put-answer-requires : tie.Need-put-answer-requires Inv-loop μ-loop
-put-answer-requires c κs = feed-room _ _ _ _ _ _ _ _ _ (c .before .before .before .before .before .before .before .before .before .before .before .before .before .before .before .before .before .before .before .before .loop .inv) (c .before .before .before .before .before .before .before .before .before .before .before .before .before .before .before .before .before .before .before .loop-test .taken)
+put-answer-requires c κs = feed-room _ _ _ _ _ _ _ _ _ (c .before .before .before .before .before .before .before .before .before .before .before .before .before .before .before .before .before .before .before .before .before .loop .inv) (c .before .before .before .before .before .before .before .before .before .before .before .before .before .before .before .before .before .before .before .before .loop-test .taken)
 
 loop-less : tie.Need-loop-less Inv-loop μ-loop
-loop-less c = one-less _ _ (c .before .before .before .before .before .before .before .before .before .before .before .before .before .before .before .before .before .before .before .before .before .before .loop-test .taken)
+loop-less c = one-less _ _ (c .before .before .before .before .before .before .before .before .before .before .before .before .before .before .before .before .before .before .before .before .before .before .before .loop-test .taken)
 
 loop-again : tie.Need-loop-again Inv-loop μ-loop
 loop-again c =
-    feed-deed _ _ _ _ _ _ _ _ _ (c .before .before .before .before .before .before .before .before .before .before .before .before .before .before .before .before .before .before .before .before .before .before .before .loop .inv)
-    (c .before .before .before .before .before .before .before .before .before .before .before .before .before .before .before .before .before .before .before .before .before .before .loop-test .taken)
-    (c .before .before .before .before .before .before .before .before .before .before .before .before .before .before .before .before .before .before .before .before .if1 .taken)
-    _ (c .before .before .before .before .before .before .before .before .before .before .before .before .before .before .before .before .before .before .before .next-line .ensures)
-    _ (c .before .before .before .before .before .before .before .before .before .before .before .before .before .before .before .before .before .before .command-in .ensures)
-    _ (c .before .before .before .before .before .before .before .before .before .before .before .before .deed-of .ensures)
-    (c .before .before .before .before .before .before .before .before .before .before .before .if2 .taken)
+    feed-deed _ _ _ _ _ _ _ _ _ (c .before .before .before .before .before .before .before .before .before .before .before .before .before .before .before .before .before .before .before .before .before .before .before .before .loop .inv)
+    (c .before .before .before .before .before .before .before .before .before .before .before .before .before .before .before .before .before .before .before .before .before .before .before .loop-test .taken)
+    (c .before .before .before .before .before .before .before .before .before .before .before .before .before .before .before .before .before .before .before .before .before .if1 .taken)
+    _ (c .before .before .before .before .before .before .before .before .before .before .before .before .before .before .before .before .before .before .before .before .next-line .ensures)
+    _ (c .before .before .before .before .before .before .before .before .before .before .before .before .before .before .before .before .before .before .before .command-in .ensures)
+    _ (c .before .before .before .before .before .before .before .before .before .before .before .before .before .deed-of .ensures)
+    (c .before .before .before .before .before .before .before .before .before .before .before .enum-told .given .1)
     _ _ (c .before .before .put-answer .ensures .0) (c .before .before .put-answer .ensures .1)
-    _ (c .before .before .before .before .before .before .before .before .before .before .before .before .before .before .before .before .before .no-bytes .ensures)
+    _ (c .before .before .before .before .before .before .before .before .before .before .before .before .before .before .before .before .before .before .no-bytes .ensures)
     _ (change-stores _ _ _ refl _ (c .before .before .before .before .before .before .before .taken-if .ensures) _ refl _ (c .before .before .before .before .sent-if .ensures))
+
+enum-known-way : tie.Need-enum-known-way Inv-loop μ-loop
+enum-known-way c = search (feeding, needs)
+
+partitions-after-requires : tie.Need-partitions-after-requires Inv-loop μ-loop
+partitions-after-requires c κs = (c .before .before .before .before .deed-of .ensures .ready (c .before .before .way .given .0 .0) (c .before .before .way .given .1), refl)
+
+queues-after-requires : tie.Need-queues-after-requires Inv-loop μ-loop
+queues-after-requires c κs = search (feeding, needs)
+
+put-answer-requires-2 : tie.Need-put-answer-requires-2 Inv-loop μ-loop
+put-answer-requires-2 c κs = feed-room _ _ _ _ _ _ _ _ _ (c .before .before .before .before .before .before .before .before .before .before .before .before .before .before .before .before .before .before .before .loop .inv) (c .before .before .before .before .before .before .before .before .before .before .before .before .before .before .before .before .before .before .loop-test .taken)
+
+loop-less-2 : tie.Need-loop-less-2 Inv-loop μ-loop
+loop-less-2 c = one-less _ _ (c .before .before .before .before .before .before .before .before .before .before .before .before .before .before .before .before .before .before .before .before .before .loop-test .taken)
+
+loop-again-2 : tie.Need-loop-again-2 Inv-loop μ-loop
+loop-again-2 c =
+    feed-loss _ _ _ _ _ _ _ _ _ (c .before .before .before .before .before .before .before .before .before .before .before .before .before .before .before .before .before .before .before .before .before .before .loop .inv)
+    (c .before .before .before .before .before .before .before .before .before .before .before .before .before .before .before .before .before .before .before .before .before .loop-test .taken)
+    (c .before .before .before .before .before .before .before .before .before .before .before .before .before .before .before .before .before .before .before .if1 .taken)
+    _ (c .before .before .before .before .before .before .before .before .before .before .before .before .before .before .before .before .before .before .next-line .ensures)
+    _ (c .before .before .before .before .before .before .before .before .before .before .before .before .before .before .before .before .before .command-in .ensures)
+    _ (c .before .before .before .before .before .before .before .before .before .before .before .deed-of .ensures)
+    (c .before .before .before .before .before .before .before .before .before .way .given .0 .0) (c .before .before .before .before .before .before .before .before .before .way .given .1)
+    _ _ (c .before .before .put-answer2 .ensures .0) (c .before .before .put-answer2 .ensures .1)
+    _ (c .before .before .before .before .before .before .before .before .before .before .before .before .before .before .before .before .no-bytes .ensures)
+    _ (tables-left (c .before .before .before .before .before .before .before .before .before .way .given .0 .0) (c .before .before .before .before .before .before .before .before .before .before .before .before .before .before .before .before .before .before .before .before .before .before .loop .tables) (c .before .before .before .before .before .before .before .before .before .before .before .deed-of .ensures .sized (c .before .before .before .before .before .before .before .before .before .way .given .0 .0) (c .before .before .before .before .before .before .before .before .before .way .given .1)) (c .before .before .before .before .before .before .before .before .before .before .before .deed-of .ensures .ready (c .before .before .before .before .before .before .before .before .before .way .given .0 .0) (c .before .before .before .before .before .before .before .before .before .way .given .1)) _ _ (c .before .before .before .before .before .before .partitions-after .ensures) (c .before .before .before .before .queues-after .ensures))
+
+enum-told-2 : tie.Need-enum-told-2 Inv-loop μ-loop
+enum-told-2 c = search (feeding, needs)
 
 respond-requires : tie.Need-respond-requires Inv-loop μ-loop
 respond-requires c κs = search (feeding, needs)
 
-put-answer-requires-2 : tie.Need-put-answer-requires-2 Inv-loop μ-loop
-put-answer-requires-2 c κs = feed-room _ _ _ _ _ _ _ _ _ (c .before .before .before .before .before .before .before .before .before .before .before .before .before .before .loop .inv) (c .before .before .before .before .before .before .before .before .before .before .before .before .before .loop-test .taken)
+put-answer-requires-3 : tie.Need-put-answer-requires-3 Inv-loop μ-loop
+put-answer-requires-3 c κs = feed-room _ _ _ _ _ _ _ _ _ (c .before .before .before .before .before .before .before .before .before .before .before .before .before .before .before .loop .inv) (c .before .before .before .before .before .before .before .before .before .before .before .before .before .before .loop-test .taken)
 
-loop-less-2 : tie.Need-loop-less-2 Inv-loop μ-loop
-loop-less-2 c = one-less _ _ (c .before .before .before .before .before .before .before .before .before .before .before .before .before .before .before .before .before .before .loop-test .taken)
+loop-less-3 : tie.Need-loop-less-3 Inv-loop μ-loop
+loop-less-3 c = one-less _ _ (c .before .before .before .before .before .before .before .before .before .before .before .before .before .before .before .before .before .before .before .loop-test .taken)
 
-loop-again-2 : tie.Need-loop-again-2 Inv-loop μ-loop
-loop-again-2 c =
-    feed-line _ _ _ _ _ _ _ _ _ (c .before .before .before .before .before .before .before .before .before .before .before .before .before .before .before .before .before .before .before .loop .inv)
-    (c .before .before .before .before .before .before .before .before .before .before .before .before .before .before .before .before .before .before .loop-test .taken)
-    (c .before .before .before .before .before .before .before .before .before .before .before .before .before .before .before .before .if1 .taken)
-    _ (c .before .before .before .before .before .before .before .before .before .before .before .before .before .before .before .next-line .ensures)
-    _ (c .before .before .before .before .before .before .before .before .before .before .before .before .before .before .command-in .ensures)
+loop-again-3 : tie.Need-loop-again-3 Inv-loop μ-loop
+loop-again-3 c =
+    feed-line _ _ _ _ _ _ _ _ _ (c .before .before .before .before .before .before .before .before .before .before .before .before .before .before .before .before .before .before .before .before .loop .inv)
+    (c .before .before .before .before .before .before .before .before .before .before .before .before .before .before .before .before .before .before .before .loop-test .taken)
+    (c .before .before .before .before .before .before .before .before .before .before .before .before .before .before .before .before .before .if1 .taken)
+    _ (c .before .before .before .before .before .before .before .before .before .before .before .before .before .before .before .before .next-line .ensures)
+    _ (c .before .before .before .before .before .before .before .before .before .before .before .before .before .before .before .command-in .ensures)
     _ (c .before .before .before .before .before .before .respond .ensures)
-    _ _ (c .before .before .before .before .put-answer2 .ensures .0) (c .before .before .before .before .put-answer2 .ensures .1)
-    _ (c .before .before .before .before .before .before .before .before .before .before .before .before .before .no-bytes .ensures)
+    _ _ (c .before .before .before .before .put-answer3 .ensures .0) (c .before .before .before .before .put-answer3 .ensures .1)
+    _ (c .before .before .before .before .before .before .before .before .before .before .before .before .before .before .no-bytes .ensures)
     _ refl
 
 with-byte-requires : tie.Need-with-byte-requires Inv-loop μ-loop
 with-byte-requires c κs = search (feeding, needs)
 
-loop-less-3 : tie.Need-loop-less-3 Inv-loop μ-loop
-loop-less-3 c = search (feeding, needs)
+loop-less-4 : tie.Need-loop-less-4 Inv-loop μ-loop
+loop-less-4 c = search (feeding, needs)
 
-loop-again-3 : tie.Need-loop-again-3 Inv-loop μ-loop
-loop-again-3 c = search (feeding, needs)
+loop-again-4 : tie.Need-loop-again-4 Inv-loop μ-loop
+loop-again-4 c = search (feeding, needs)
 
 same-length : tie.Need-same-length Inv-loop μ-loop
 same-length c = search (feeding, needs)
@@ -215,6 +250,7 @@ feed-spec =
     mul-waiting-2
     element-copy-out-waiting
     deed-of-requires
+    enum-told
     mul-x
     element-set-from-x
     mul-from
@@ -238,12 +274,19 @@ feed-spec =
     put-answer-requires
     loop-less
     loop-again
-    respond-requires
+    enum-known-way
+    partitions-after-requires
+    queues-after-requires
     put-answer-requires-2
     loop-less-2
     loop-again-2
-    with-byte-requires
+    enum-told-2
+    respond-requires
+    put-answer-requires-3
     loop-less-3
     loop-again-3
+    with-byte-requires
+    loop-less-4
+    loop-again-4
     same-length
     returns)

@@ -1,6 +1,6 @@
 use borrow.Author.Needs.{needs}
-use Rattle.deeds.proofs.none.Statement.{statement}
-use Rattle.deeds.proofs.none.Tie as tie
+use Rattle.deeds.proofs.without_change.Statement.{statement}
+use Rattle.deeds.proofs.without_change.Tie as tie
 
 element-copy-out-x : tie.Need-element-copy-out-x
 element-copy-out-x c = search needs
@@ -14,5 +14,6 @@ answered-requires c κs = search needs
 returns : tie.Need-returns
 returns c = cc
 
-pub none-spec : {M : Type 1} → statement M
-none-spec = tie.close (tie.spec element-copy-out-x keeps-requires answered-requires returns)
+pub without-change-spec : {M : Type 1} → statement M
+without-change-spec =
+    tie.close (tie.spec element-copy-out-x keeps-requires answered-requires returns)
