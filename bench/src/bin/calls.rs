@@ -93,6 +93,7 @@ fn works(small_times: u32, full_times: u32) -> Vec<Work> {
             "A 0 4294967295\n",
             times,
         ));
+        works.push(repeated("advance of no partition", fill, "A 9 1\n", times));
         works.push(repeated("refused deliver", fill, "D 0 2\n", times));
         works.push(repeated("cut", fill, "B 0 2\n", times));
         works.push(repeated("settle 0", fill, "Z 0\n", times));
