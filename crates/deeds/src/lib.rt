@@ -45,12 +45,6 @@ pub struct Deed {
     pub change: Change,
 }
 
-// Where the partitions stand that a command's first two numbers name.
-pub struct Places {
-    pub first: usize,
-    pub second: usize,
-}
-
 // A number that no partition can have is as good as 0 here: what stands there is then not looked at.
 fn place(n: u32) -> usize
     ensures { λ r. ⌜ (r ≡ fitted n) × (r < maxPartitions) ⌝ }
@@ -62,15 +56,20 @@ fn place(n: u32) -> usize
     0
 }
 
-pub fn places_of(c: Command) -> Places
-    ensures { λ r. ⌜ (r .first ≡ placeIn c 0) × (r .second ≡ placeIn c 1) ⌝ }
-    ensures { λ r. ⌜ (r .first < maxPartitions) × (r .second < maxPartitions) ⌝ }
+// Where the partition stands that a command's first number names.
+pub fn first_place(c: Command) -> usize
+    ensures { λ r. ⌜ (r ≡ placeIn c 0) × (r < maxPartitions) ⌝ }
 {
-    let a = c.numbers[0];
-    let b = c.numbers[1];
-    let first = place(a);
-    let second = place(b);
-    Places { first, second }
+    let n = c.numbers[0];
+    place(n)
+}
+
+// And its second.
+pub fn second_place(c: Command) -> usize
+    ensures { λ r. ⌜ (r ≡ placeIn c 1) × (r < maxPartitions) ⌝ }
+{
+    let n = c.numbers[1];
+    place(n)
 }
 
 // The change is one that is not stored.

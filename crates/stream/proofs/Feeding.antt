@@ -29,6 +29,9 @@ use Rattle.tables.specs.declared.Tables.{Tables}
 use Rattle.texts.proofs.Buffers.{adds-length, adds-nothing, adds-on}
 use Rattle.feeding.specs.Feed.{Midway, Service, begunWith, fed, fedByte, longestAnswer, midway, nextLine, said, saidByte}
 use Rattle.feeding.specs.Sessions.{sessions}
+use Rattle.stream.specs.Keeping.{lineOf, midwayOf}
+use Rattle.stream.specs.declared.blocks.Kept.{Kept}
+use Rattle.stream.specs.declared.blocks.Line.{Line}
 
 -- ---- a block from a place on
 module _ {S : Type 0} (v : Service S) (block : List ℕ) (i : ℕ) where
@@ -146,6 +149,16 @@ module _ (t : Tables) (a p b q : ℕ) (e : a ≡ p) (f : b ≡ q) where
 
   pub queue-named : queueAt t (a * maxPartitions + b) ≡ queueAt t (p * maxPartitions + q)
   queue-named = rw (e, f) refl
+
+-- ---- the session that is asked, and the one that is kept
+
+module _ (r : Response) (x : Session) («open» : Bool) (t : Tables) (e : x ≡ record { «open» = «open»; tables = t }) where
+  pub session-asked : (c : Command) → r ≡ responded x c → r ≡ responded (record { «open» = «open»; tables = t }) c
+  session-asked c h = h ∙ rw e refl
+
+module _ (k : Kept) (l : Line) (n : ℕ) (x y : Session) where
+  pub kept-midway : k ≡ record { line = l; lines = n; session = x } → x ≡ y → midwayOf k ≡ midway (lineOf l) n y
+  kept-midway e f = rw (e, f) refl
 
 -- ---- where a change is stored
 

@@ -18,7 +18,8 @@ use Rattle.rehearsal.specs.declared.Command.{Command}
 use Rattle.sessions.specs.declared.Session.{Session}
 use Rattle.feeding.specs.Feed.{begunWith, lineRoom, midway}
 use Rattle.feeding.specs.Sessions.{atStart}
-use Rattle.stream.specs.Keeping.{lineOf}
+use Rattle.stream.specs.Keeping.{lineOf, midwayOf}
+use Rattle.stream.specs.declared.blocks.Kept.{Kept}
 use Rattle.stream.specs.declared.blocks.Line.{Line}
 use Rattle.stream.proofs.blocks.Line.{the-row}
 
@@ -59,7 +60,7 @@ pub whole-asked : (bytes : List ℕ) (len : ℕ) (c : Command) → c ≡ command
 whole-asked bytes len c e h = rw (take-all len bytes (omega arith)) e
 
 -- ---- `start`
-pub nothing-read : (l : Line) → lineOf l ≡ [] → (s : Session) → s ≡ closedSession → midway (lineOf l) 0 s ≡ atStart
-nothing-read l e s f = rw (e, f)
+pub nothing-read : (k : Kept) (l : Line) (s : Session) → k ≡ record { line = l; lines = 0; session = s } → lineOf l ≡ [] → s ≡ closedSession → midwayOf k ≡ atStart
+nothing-read k l s g e f = rw (g, e, f)
 
 pub ruleset gathering = (line-over, line-more, some-bytes)

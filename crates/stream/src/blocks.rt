@@ -21,6 +21,7 @@ use rehearsal::LINE_BYTES;
 use rehearsal::Numbers;
 use sessions::Session;
 use tables::MAX_PARTITIONS;
+use tables::Tables;
 use texts::text;
 
 // One byte more than a line may have stands for any more.
@@ -98,16 +99,31 @@ fn put_answer(out: &mut [u8], at: usize, lines: u64, x: Numbers) -> usize
     text::put_line(out, at, lines, x)
 }
 
+fn session_of(running: bool, tables: Tables) -> Session
+    ensures { λ r. ⌜ r ≡ record { «open» = running; tables = tables } ⌝ }
+{
+    Session {
+        open: running,
+        tables: tables,
+    }
+}
+
+fn kept_of(line: Line, lines: u64, session: Session) -> Kept
+    ensures { λ r. ⌜ r ≡ record { line = line; lines = lines; session = session } ⌝ }
+{
+    Kept {
+        line,
+        lines,
+        session,
+    }
+}
+
 pub fn start() -> Kept
     ensures { λ r. ⌜ midwayOf r ≡ atStart ⌝ }
 {
     let line = no_bytes();
     let session = sessions::closed();
-    Kept {
-        line,
-        lines: 0,
-        session,
-    }
+    kept_of(line, 0, session)
 }
 
 pub fn has_begun(k: Kept) -> bool
@@ -137,9 +153,8 @@ pub fn feed(k: Kept, block: &[u8], out: &mut [u8]) -> Fed
             lines = next_line(lines);
             let command = command_in(line);
             line = no_bytes();
-            let places = deeds::places_of(command);
-            let first = places.first;
-            let second = places.second;
+            let first = deeds::first_place(command);
+            let second = deeds::second_place(command);
             let own = tables.partitions[first];
             let receiver = tables.partitions[second];
             let waiting = tables.queues[first * MAX_PARTITIONS + second];
@@ -156,8 +171,7 @@ pub fn feed(k: Kept, block: &[u8], out: &mut [u8]) -> Fed
                     let rest = taken_if(change.takes, from);
                     tables.queues[other * MAX_PARTITIONS + at] = rest;
                     let to = tables.queues[at * MAX_PARTITIONS + other];
-                    let message = change.message;
-                    let more = sent_if(change.sends, to, message);
+                    let more = sent_if(change.sends, to, change.message);
                     tables.queues[at * MAX_PARTITIONS + other] = more;
                     place = put_answer(out, place, lines, deed.numbers);
                 }
@@ -171,10 +185,7 @@ pub fn feed(k: Kept, block: &[u8], out: &mut [u8]) -> Fed
                     place = put_answer(out, place, lines, deed.numbers);
                 }
                 Way::Unknown => {
-                    let session = Session {
-                        open: running,
-                        tables: tables,
-                    };
+                    let session = session_of(running, tables);
                     let response = sessions::respond(session, command);
                     place = put_answer(out, place, lines, response.numbers);
                     let next = response.session;
@@ -186,14 +197,7 @@ pub fn feed(k: Kept, block: &[u8], out: &mut [u8]) -> Fed
             line = with_byte(line, b);
         }
     }
-    let session = Session {
-        open: running,
-        tables: tables,
-    };
-    let kept = Kept {
-        line,
-        lines,
-        session,
-    };
+    let session = session_of(running, tables);
+    let kept = kept_of(line, lines, session);
     Fed { kept, place }
 }

@@ -1,9 +1,9 @@
-use Rattle.stream.proofs.Feeding.{Feeding, feed-deed, feed-kept, feed-line, feed-loss, feed-room, feed-said, feeding, from-most, from-packed, from-takes, one-less, partition-named, queue-named, to-packed, to-sends}
+use Rattle.stream.proofs.Feeding.{Feeding, feed-deed, feed-kept, feed-line, feed-loss, feed-room, feed-said, feeding, from-most, from-packed, from-takes, kept-midway, one-less, partition-named, queue-named, session-asked, to-packed, to-sends}
 use Rattle.answers.proofs.Applied.{change-stores}
 use Rattle.feeding.specs.Feed.{midway}
 use Rattle.stream.specs.Keeping.{lineOf}
 use Prim.Native.Nat.{_-_}
-use mathlib.Core.Path.{refl}
+use mathlib.Core.Path.{_∙_, refl}
 use lib.ListN.{length}
 use Rattle.losses.proofs.Loses.{tables-left}
 use borrow.Author.Needs.{needs}
@@ -35,8 +35,11 @@ command-in-requires c κs = search (feeding, needs)
 no-bytes-requires : tie.Need-no-bytes-requires Inv-loop μ-loop
 no-bytes-requires c κs = search (feeding, needs)
 
-places-of-requires : tie.Need-places-of-requires Inv-loop μ-loop
-places-of-requires c κs = search (feeding, needs)
+first-place-requires : tie.Need-first-place-requires Inv-loop μ-loop
+first-place-requires c κs = search (feeding, needs)
+
+second-place-requires : tie.Need-second-place-requires Inv-loop μ-loop
+second-place-requires c κs = search (feeding, needs)
 
 mul-own : tie.Need-mul-own Inv-loop μ-loop
 mul-own c = search (feeding, needs)
@@ -64,10 +67,10 @@ element-copy-out-waiting c = search (feeding, needs)
 
 deed-of-requires : tie.Need-deed-of-requires Inv-loop μ-loop
 deed-of-requires c κs = (
-  partition-named (c .before .before .before .before .before .before .before .before .before .before .loop .tables) _ _ _ _ (c .before .before .before .places-of .ensures .0 .0) (c .before .before .before .places-of .ensures .0 .1),
+  partition-named (c .before .before .before .before .before .before .before .before .before .before .before .loop .tables) _ _ _ _ (c .before .before .before .before .first-place .ensures .0) (c .before .before .before .second-place .ensures .0),
   (
-    partition-named (c .before .before .before .before .before .before .before .before .before .before .loop .tables) _ _ _ _ (c .before .before .before .places-of .ensures .0 .1) (c .before .before .before .places-of .ensures .0 .0),
-    queue-named (c .before .before .before .before .before .before .before .before .before .before .loop .tables) _ _ _ _ (c .before .before .before .places-of .ensures .0 .0) (c .before .before .before .places-of .ensures .0 .1),
+    partition-named (c .before .before .before .before .before .before .before .before .before .before .before .loop .tables) _ _ _ _ (c .before .before .before .second-place .ensures .0) (c .before .before .before .before .first-place .ensures .0),
+    queue-named (c .before .before .before .before .before .before .before .before .before .before .before .loop .tables) _ _ _ _ (c .before .before .before .before .first-place .ensures .0) (c .before .before .before .second-place .ensures .0),
   ),
 )
 
@@ -125,8 +128,8 @@ element-copy-out-to c = search (feeding, needs)
 
 sent-if-requires : tie.Need-sent-if-requires Inv-loop μ-loop
 sent-if-requires c κs = (
-  to-packed _ _ _ _ (c .before .before .before .before .before .before .before .before .deed-of .ensures) (c .before .before .before .before .before .before .enum-told .given .1) _ refl _ (c .before .before .taken-if .ensures) _ refl,
-  to-sends _ _ _ _ (c .before .before .before .before .before .before .before .before .deed-of .ensures) (c .before .before .before .before .before .before .enum-told .given .1) _ refl _ (c .before .before .taken-if .ensures) _ refl,
+  to-packed _ _ _ _ (c .before .before .before .before .before .before .before .deed-of .ensures) (c .before .before .before .before .before .enum-told .given .1) _ refl _ (c .before .taken-if .ensures) _ refl,
+  to-sends _ _ _ _ (c .before .before .before .before .before .before .before .deed-of .ensures) (c .before .before .before .before .before .enum-told .given .1) _ refl _ (c .before .taken-if .ensures) _ refl,
 )
 
 mul-more : tie.Need-mul-more Inv-loop μ-loop
@@ -154,11 +157,11 @@ loop-again c =
     (c .before .before .before .before .before .before .before .before .before .before .before .before .before .before .before .before .before .before .before .before .before .if1 .taken)
     _ (c .before .before .before .before .before .before .before .before .before .before .before .before .before .before .before .before .before .before .before .before .next-line .ensures)
     _ (c .before .before .before .before .before .before .before .before .before .before .before .before .before .before .before .before .before .before .before .command-in .ensures)
-    _ (c .before .before .before .before .before .before .before .before .before .before .before .before .before .deed-of .ensures)
-    (c .before .before .before .before .before .before .before .before .before .before .before .enum-told .given .1)
+    _ (c .before .before .before .before .before .before .before .before .before .before .before .before .deed-of .ensures)
+    (c .before .before .before .before .before .before .before .before .before .before .enum-told .given .1)
     _ _ (c .before .before .put-answer .ensures .0) (c .before .before .put-answer .ensures .1)
     _ (c .before .before .before .before .before .before .before .before .before .before .before .before .before .before .before .before .before .before .no-bytes .ensures)
-    _ (change-stores _ _ _ refl _ (c .before .before .before .before .before .before .before .taken-if .ensures) _ refl _ (c .before .before .before .before .sent-if .ensures))
+    _ (change-stores _ _ _ refl _ (c .before .before .before .before .before .before .taken-if .ensures) _ refl _ (c .before .before .before .before .sent-if .ensures))
 
 enum-known-way : tie.Need-enum-known-way Inv-loop μ-loop
 enum-known-way c = search (feeding, needs)
@@ -170,46 +173,49 @@ queues-after-requires : tie.Need-queues-after-requires Inv-loop μ-loop
 queues-after-requires c κs = search (feeding, needs)
 
 put-answer-requires-2 : tie.Need-put-answer-requires-2 Inv-loop μ-loop
-put-answer-requires-2 c κs = feed-room _ _ _ _ _ _ _ _ _ (c .before .before .before .before .before .before .before .before .before .before .before .before .before .before .before .before .before .before .before .loop .inv) (c .before .before .before .before .before .before .before .before .before .before .before .before .before .before .before .before .before .before .loop-test .taken)
+put-answer-requires-2 c κs = feed-room _ _ _ _ _ _ _ _ _ (c .before .before .before .before .before .before .before .before .before .before .before .before .before .before .before .before .before .before .before .before .loop .inv) (c .before .before .before .before .before .before .before .before .before .before .before .before .before .before .before .before .before .before .before .loop-test .taken)
 
 loop-less-2 : tie.Need-loop-less-2 Inv-loop μ-loop
-loop-less-2 c = one-less _ _ (c .before .before .before .before .before .before .before .before .before .before .before .before .before .before .before .before .before .before .before .before .before .loop-test .taken)
+loop-less-2 c = one-less _ _ (c .before .before .before .before .before .before .before .before .before .before .before .before .before .before .before .before .before .before .before .before .before .before .loop-test .taken)
 
 loop-again-2 : tie.Need-loop-again-2 Inv-loop μ-loop
 loop-again-2 c =
-    feed-loss _ _ _ _ _ _ _ _ _ (c .before .before .before .before .before .before .before .before .before .before .before .before .before .before .before .before .before .before .before .before .before .before .loop .inv)
-    (c .before .before .before .before .before .before .before .before .before .before .before .before .before .before .before .before .before .before .before .before .before .loop-test .taken)
-    (c .before .before .before .before .before .before .before .before .before .before .before .before .before .before .before .before .before .before .before .if1 .taken)
-    _ (c .before .before .before .before .before .before .before .before .before .before .before .before .before .before .before .before .before .before .next-line .ensures)
-    _ (c .before .before .before .before .before .before .before .before .before .before .before .before .before .before .before .before .before .command-in .ensures)
+    feed-loss _ _ _ _ _ _ _ _ _ (c .before .before .before .before .before .before .before .before .before .before .before .before .before .before .before .before .before .before .before .before .before .before .before .loop .inv)
+    (c .before .before .before .before .before .before .before .before .before .before .before .before .before .before .before .before .before .before .before .before .before .before .loop-test .taken)
+    (c .before .before .before .before .before .before .before .before .before .before .before .before .before .before .before .before .before .before .before .before .if1 .taken)
+    _ (c .before .before .before .before .before .before .before .before .before .before .before .before .before .before .before .before .before .before .before .next-line .ensures)
+    _ (c .before .before .before .before .before .before .before .before .before .before .before .before .before .before .before .before .before .before .command-in .ensures)
     _ (c .before .before .before .before .before .before .before .before .before .before .before .deed-of .ensures)
     (c .before .before .before .before .before .before .before .before .before .way .given .0 .0) (c .before .before .before .before .before .before .before .before .before .way .given .1)
     _ _ (c .before .before .put-answer2 .ensures .0) (c .before .before .put-answer2 .ensures .1)
-    _ (c .before .before .before .before .before .before .before .before .before .before .before .before .before .before .before .before .no-bytes .ensures)
-    _ (tables-left (c .before .before .before .before .before .before .before .before .before .way .given .0 .0) (c .before .before .before .before .before .before .before .before .before .before .before .before .before .before .before .before .before .before .before .before .before .before .loop .tables) (c .before .before .before .before .before .before .before .before .before .before .before .deed-of .ensures .sized (c .before .before .before .before .before .before .before .before .before .way .given .0 .0) (c .before .before .before .before .before .before .before .before .before .way .given .1)) (c .before .before .before .before .before .before .before .before .before .before .before .deed-of .ensures .ready (c .before .before .before .before .before .before .before .before .before .way .given .0 .0) (c .before .before .before .before .before .before .before .before .before .way .given .1)) _ _ (c .before .before .before .before .before .before .partitions-after .ensures) (c .before .before .before .before .queues-after .ensures))
+    _ (c .before .before .before .before .before .before .before .before .before .before .before .before .before .before .before .before .before .no-bytes .ensures)
+    _ (tables-left (c .before .before .before .before .before .before .before .before .before .way .given .0 .0) (c .before .before .before .before .before .before .before .before .before .before .before .before .before .before .before .before .before .before .before .before .before .before .before .loop .tables) (c .before .before .before .before .before .before .before .before .before .before .before .deed-of .ensures .sized (c .before .before .before .before .before .before .before .before .before .way .given .0 .0) (c .before .before .before .before .before .before .before .before .before .way .given .1)) (c .before .before .before .before .before .before .before .before .before .before .before .deed-of .ensures .ready (c .before .before .before .before .before .before .before .before .before .way .given .0 .0) (c .before .before .before .before .before .before .before .before .before .way .given .1)) _ _ (c .before .before .before .before .before .before .partitions-after .ensures) (c .before .before .before .before .queues-after .ensures))
 
 enum-told-2 : tie.Need-enum-told-2 Inv-loop μ-loop
 enum-told-2 c = search (feeding, needs)
+
+session-of-requires : tie.Need-session-of-requires Inv-loop μ-loop
+session-of-requires c κs = search (feeding, needs)
 
 respond-requires : tie.Need-respond-requires Inv-loop μ-loop
 respond-requires c κs = search (feeding, needs)
 
 put-answer-requires-3 : tie.Need-put-answer-requires-3 Inv-loop μ-loop
-put-answer-requires-3 c κs = feed-room _ _ _ _ _ _ _ _ _ (c .before .before .before .before .before .before .before .before .before .before .before .before .before .before .before .loop .inv) (c .before .before .before .before .before .before .before .before .before .before .before .before .before .before .loop-test .taken)
+put-answer-requires-3 c κs = feed-room _ _ _ _ _ _ _ _ _ (c .before .before .before .before .before .before .before .before .before .before .before .before .before .before .before .before .before .loop .inv) (c .before .before .before .before .before .before .before .before .before .before .before .before .before .before .before .before .loop-test .taken)
 
 loop-less-3 : tie.Need-loop-less-3 Inv-loop μ-loop
-loop-less-3 c = one-less _ _ (c .before .before .before .before .before .before .before .before .before .before .before .before .before .before .before .before .before .before .before .loop-test .taken)
+loop-less-3 c = one-less _ _ (c .before .before .before .before .before .before .before .before .before .before .before .before .before .before .before .before .before .before .before .before .before .loop-test .taken)
 
 loop-again-3 : tie.Need-loop-again-3 Inv-loop μ-loop
 loop-again-3 c =
-    feed-line _ _ _ _ _ _ _ _ _ (c .before .before .before .before .before .before .before .before .before .before .before .before .before .before .before .before .before .before .before .before .loop .inv)
-    (c .before .before .before .before .before .before .before .before .before .before .before .before .before .before .before .before .before .before .before .loop-test .taken)
-    (c .before .before .before .before .before .before .before .before .before .before .before .before .before .before .before .before .before .if1 .taken)
-    _ (c .before .before .before .before .before .before .before .before .before .before .before .before .before .before .before .before .next-line .ensures)
-    _ (c .before .before .before .before .before .before .before .before .before .before .before .before .before .before .before .command-in .ensures)
-    _ (c .before .before .before .before .before .before .respond .ensures)
+    feed-line _ _ _ _ _ _ _ _ _ (c .before .before .before .before .before .before .before .before .before .before .before .before .before .before .before .before .before .before .before .before .before .before .loop .inv)
+    (c .before .before .before .before .before .before .before .before .before .before .before .before .before .before .before .before .before .before .before .before .before .loop-test .taken)
+    (c .before .before .before .before .before .before .before .before .before .before .before .before .before .before .before .before .before .before .before .if1 .taken)
+    _ (c .before .before .before .before .before .before .before .before .before .before .before .before .before .before .before .before .before .before .next-line .ensures)
+    _ (c .before .before .before .before .before .before .before .before .before .before .before .before .before .before .before .before .before .command-in .ensures)
+    _ (session-asked _ _ _ _ (c .before .before .before .before .before .before .before .session-of .ensures) _ (c .before .before .before .before .before .before .respond .ensures))
     _ _ (c .before .before .before .before .put-answer3 .ensures .0) (c .before .before .before .before .put-answer3 .ensures .1)
-    _ (c .before .before .before .before .before .before .before .before .before .before .before .before .before .before .no-bytes .ensures)
+    _ (c .before .before .before .before .before .before .before .before .before .before .before .before .before .before .before .before .no-bytes .ensures)
     _ refl
 
 with-byte-requires : tie.Need-with-byte-requires Inv-loop μ-loop
@@ -221,12 +227,20 @@ loop-less-4 c = search (feeding, needs)
 loop-again-4 : tie.Need-loop-again-4 Inv-loop μ-loop
 loop-again-4 c = search (feeding, needs)
 
+session-of-requires-2 : tie.Need-session-of-requires-2 Inv-loop μ-loop
+session-of-requires-2 c κs = search (feeding, needs)
+
+kept-of-requires : tie.Need-kept-of-requires Inv-loop μ-loop
+kept-of-requires c κs = search (feeding, needs)
+
 same-length : tie.Need-same-length Inv-loop μ-loop
 same-length c = search (feeding, needs)
 
 returns : tie.Need-returns Inv-loop μ-loop
-returns c =
-    (feed-kept _ _ _ _ _ _ _ _ _ (c .before .loop .inv) (c .loop-test .left), feed-said _ _ _ _ _ _ _ _ _ (c .before .loop .inv) (c .loop-test .left))
+returns c = (
+  kept-midway _ _ _ _ _ (c .kept-of .ensures) (c .before .session-of2 .ensures) ∙ feed-kept _ _ _ _ _ _ _ _ _ (c .before .before .before .loop .inv) (c .before .before .loop-test .left),
+  feed-said _ _ _ _ _ _ _ _ _ (c .before .before .before .loop .inv) (c .before .before .loop-test .left),
+)
 
 pub feed-spec : {M : Type 1} → statement M
 feed-spec =
@@ -240,7 +254,8 @@ feed-spec =
     next-line-requires
     command-in-requires
     no-bytes-requires
-    places-of-requires
+    first-place-requires
+    second-place-requires
     mul-own
     element-copy-out-own
     mul-receiver
@@ -281,6 +296,7 @@ feed-spec =
     loop-less-2
     loop-again-2
     enum-told-2
+    session-of-requires
     respond-requires
     put-answer-requires-3
     loop-less-3
@@ -288,5 +304,7 @@ feed-spec =
     with-byte-requires
     loop-less-4
     loop-again-4
+    session-of-requires-2
+    kept-of-requires
     same-length
     returns)

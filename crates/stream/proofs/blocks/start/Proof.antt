@@ -9,8 +9,11 @@ no-bytes-requires c κs = search (nothing-read, needs)
 closed-requires : tie.Need-closed-requires
 closed-requires c κs = search (nothing-read, needs)
 
+kept-of-requires : tie.Need-kept-of-requires
+kept-of-requires c κs = search (nothing-read, needs)
+
 returns : tie.Need-returns
 returns c = search (nothing-read, needs)
 
 pub start-spec : {M : Type 1} → statement M
-start-spec = tie.close (tie.spec no-bytes-requires closed-requires returns)
+start-spec = tie.close (tie.spec no-bytes-requires closed-requires kept-of-requires returns)
