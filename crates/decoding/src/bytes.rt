@@ -40,7 +40,7 @@ pub fn get_u32(s: &[u8], at: usize) -> u32
 }
 
 // n bytes at a place, and zeros behind them.
-pub fn get_run(s: &[u8], at: usize, n: usize) -> [u8; NAME_BYTES]
+fn get_run(s: &[u8], at: usize, n: usize) -> [u8; NAME_BYTES]
     requires { ⌜ (n ≤ nameBytes) × (at + n ≤ length (now s)) ⌝ }
     ensures { λ r. ⌜ r ≡ pad nameBytes 0 (take n (drop at (now (s .entry)))) ⌝ }
 {
@@ -53,7 +53,7 @@ pub fn get_run(s: &[u8], at: usize, n: usize) -> [u8; NAME_BYTES]
     bytes
 }
 
-pub fn name_at(s: &[u8], at: usize) -> Name
+fn name_at(s: &[u8], at: usize) -> Name
     requires { ⌜ at + 9 ≤ length (now s) ⌝ }
     ensures { λ r. ⌜ nameForm first .get (drop at (now (s .entry))) ≡ got r (drop (at + 9) (now (s .entry))) ⌝ }
 {

@@ -15,7 +15,7 @@ use tables::Queue;
 use tables::Records;
 
 // Whether a message is of a record.
-pub fn is_of(r: Record, x: Message) -> bool
+fn is_of(r: Record, x: Message) -> bool
     ensures { λ a. ⌜ a ≡ matches r x ⌝ }
 {
     if x.number != r.number {
@@ -33,7 +33,7 @@ pub fn is_of(r: Record, x: Message) -> bool
 }
 
 // Whether a record is sent, towards a partition, and the message is of it.
-pub fn is_sent_as(r: Record, x: Message, to: u8) -> bool
+fn is_sent_as(r: Record, x: Message, to: u8) -> bool
     ensures { λ a. ⌜ a ≡ sentAs x to r ⌝ }
 {
     let stage = r.stage;
@@ -42,7 +42,7 @@ pub fn is_sent_as(r: Record, x: Message, to: u8) -> bool
     sent & ((r.partition == to) & same)
 }
 
-pub fn has_record(records: Records, x: Message, to: u8) -> bool
+fn has_record(records: Records, x: Message, to: u8) -> bool
     requires { ⌜ records .count ≤ maxRecords ⌝ }
     ensures { λ r. ⌜ r ≡ any (sentAs x to) (recordsOf records) ⌝ }
 {
@@ -59,7 +59,7 @@ pub fn has_record(records: Records, x: Message, to: u8) -> bool
 }
 
 // Of the records xs of partition s and ys of partition r: a message on the way from s to r is of one of them.
-pub fn message_in_order(xs: Records, ys: Records, s: u8, r: u8, x: Message) -> bool
+fn message_in_order(xs: Records, ys: Records, s: u8, r: u8, x: Message) -> bool
     requires { ⌜ (xs .count ≤ maxRecords) × (ys .count ≤ maxRecords) ⌝ }
     ensures { λ a. ⌜ a ≡ messageFine (recordsOf xs) (recordsOf ys) s r x ⌝ }
 {
@@ -74,7 +74,7 @@ pub fn message_in_order(xs: Records, ys: Records, s: u8, r: u8, x: Message) -> b
     has_record(ys, x, s)
 }
 
-pub fn messages_in_order(xs: Records, ys: Records, s: u8, r: u8, q: Queue) -> bool
+fn messages_in_order(xs: Records, ys: Records, s: u8, r: u8, q: Queue) -> bool
     requires { ⌜ (xs .count ≤ maxRecords) × (ys .count ≤ maxRecords) × (q .count ≤ maxMessages) ⌝ }
     ensures { λ a. ⌜ a ≡ all (messageFine (recordsOf xs) (recordsOf ys) s r) (messagesOf q) ⌝ }
 {
@@ -92,7 +92,7 @@ pub fn messages_in_order(xs: Records, ys: Records, s: u8, r: u8, q: Queue) -> bo
 }
 
 // An empty queue is not handed on: a queue is some six hundred bytes.
-pub fn queue_in_order(xs: Records, ys: Records, s: u8, r: u8, q: Queue) -> bool
+fn queue_in_order(xs: Records, ys: Records, s: u8, r: u8, q: Queue) -> bool
     requires { ⌜ (xs .count ≤ maxRecords) × (ys .count ≤ maxRecords) × (q .count ≤ maxMessages) ⌝ }
     ensures { λ a. ⌜ a ≡ all (messageFine (recordsOf xs) (recordsOf ys) s r) (messagesOf q) ⌝ }
 {
@@ -102,7 +102,7 @@ pub fn queue_in_order(xs: Records, ys: Records, s: u8, r: u8, q: Queue) -> bool
     messages_in_order(xs, ys, s, r, q)
 }
 
-pub fn is_request_of(r: Record, x: Message) -> bool
+fn is_request_of(r: Record, x: Message) -> bool
     ensures { λ a. ⌜ a ≡ isRequestOf r x ⌝ }
 {
     let body = x.body;
@@ -111,7 +111,7 @@ pub fn is_request_of(r: Record, x: Message) -> bool
     asking & same
 }
 
-pub fn is_answer_to(r: Record, x: Message) -> bool
+fn is_answer_to(r: Record, x: Message) -> bool
     ensures { λ a. ⌜ a ≡ isAnswerTo r x ⌝ }
 {
     let body = x.body;
@@ -120,7 +120,7 @@ pub fn is_answer_to(r: Record, x: Message) -> bool
     !asking & same
 }
 
-pub fn count_requests(q: Queue, r: Record) -> usize
+fn count_requests(q: Queue, r: Record) -> usize
     requires { ⌜ q .count ≤ maxMessages ⌝ }
     ensures { λ n. ⌜ (n ≡ length (keep (isRequestOf r) (messagesOf q))) × (n ≤ maxMessages) ⌝ }
 {
@@ -137,7 +137,7 @@ pub fn count_requests(q: Queue, r: Record) -> usize
     sum
 }
 
-pub fn count_answers(q: Queue, r: Record) -> usize
+fn count_answers(q: Queue, r: Record) -> usize
     requires { ⌜ q .count ≤ maxMessages ⌝ }
     ensures { λ n. ⌜ (n ≡ length (keep (isAnswerTo r) (messagesOf q))) × (n ≤ maxMessages) ⌝ }
 {
@@ -155,7 +155,7 @@ pub fn count_answers(q: Queue, r: Record) -> usize
 }
 
 // An empty queue is not handed on.
-pub fn requests_of(q: Queue, r: Record) -> usize
+fn requests_of(q: Queue, r: Record) -> usize
     requires { ⌜ q .count ≤ maxMessages ⌝ }
     ensures { λ n. ⌜ (n ≡ length (keep (isRequestOf r) (messagesOf q))) × (n ≤ maxMessages) ⌝ }
 {
@@ -165,7 +165,7 @@ pub fn requests_of(q: Queue, r: Record) -> usize
     count_requests(q, r)
 }
 
-pub fn answers_to(q: Queue, r: Record) -> usize
+fn answers_to(q: Queue, r: Record) -> usize
     requires { ⌜ q .count ≤ maxMessages ⌝ }
     ensures { λ n. ⌜ (n ≡ length (keep (isAnswerTo r) (messagesOf q))) × (n ≤ maxMessages) ⌝ }
 {
@@ -176,7 +176,7 @@ pub fn answers_to(q: Queue, r: Record) -> usize
 }
 
 // Whether a record, if it is sent towards r, has one message: in the queue q there or in the queue back.
-pub fn record_answered(x: Record, r: u8, q: Queue, back: Queue) -> bool
+fn record_answered(x: Record, r: u8, q: Queue, back: Queue) -> bool
     requires { ⌜ (q .count ≤ maxMessages) × (back .count ≤ maxMessages) ⌝ }
     ensures { λ a. ⌜ a ≡ recordAnswered r (messagesOf q) (messagesOf back) x ⌝ }
 {
@@ -192,7 +192,7 @@ pub fn record_answered(x: Record, r: u8, q: Queue, back: Queue) -> bool
     requests + answers == 1
 }
 
-pub fn records_answered(xs: Records, r: u8, q: Queue, back: Queue) -> bool
+fn records_answered(xs: Records, r: u8, q: Queue, back: Queue) -> bool
     requires { ⌜ (xs .count ≤ maxRecords) × (q .count ≤ maxMessages) × (back .count ≤ maxMessages) ⌝ }
     ensures { λ a. ⌜ a ≡ all (recordAnswered r (messagesOf q) (messagesOf back)) (recordsOf xs) ⌝ }
 {

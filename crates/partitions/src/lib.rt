@@ -19,7 +19,7 @@ use tables::OBJECTS;
 use tables::Partition;
 use tables::Records;
 
-pub fn is_placed(directory: u8, partition: u8, object: u8, n: usize) -> bool
+fn is_placed(directory: u8, partition: u8, object: u8, n: usize) -> bool
     ensures { λ r. ⌜ r ≡ placedAmong n directory partition object ⌝ }
 {
     let place = partition as usize;
@@ -64,7 +64,7 @@ pub fn is_given(last: u32, number: u32) -> bool
 }
 
 // An entry's number was given by its own partition, and so was a record's.
-pub fn entry_in_order(e: Entry, n: usize, last: u32) -> bool
+fn entry_in_order(e: Entry, n: usize, last: u32) -> bool
     ensures { λ r. ⌜ r ≡ entryFine n last e ⌝ }
 {
     let fits = entry_in_range(e, n);
@@ -72,7 +72,7 @@ pub fn entry_in_order(e: Entry, n: usize, last: u32) -> bool
     fits & numbered
 }
 
-pub fn record_in_order(r: Record, n: usize, last: u32) -> bool
+fn record_in_order(r: Record, n: usize, last: u32) -> bool
     ensures { λ a. ⌜ a ≡ recordFine n last r ⌝ }
 {
     let fits = record_in_range(r, n);
@@ -81,7 +81,7 @@ pub fn record_in_order(r: Record, n: usize, last: u32) -> bool
 }
 
 // The giver of a back-pointer's number is its parent.
-pub fn backpointer_given(b: Backpointer, lasts: [u32; MAX_PARTITIONS]) -> bool
+fn backpointer_given(b: Backpointer, lasts: [u32; MAX_PARTITIONS]) -> bool
     ensures { λ r. ⌜ r ≡ backpointerGiven lasts b ⌝ }
 {
     let parent = b.parent as usize;
@@ -92,7 +92,7 @@ pub fn backpointer_given(b: Backpointer, lasts: [u32; MAX_PARTITIONS]) -> bool
     is_given(last, b.number)
 }
 
-pub fn backpointer_in_order(b: Backpointer, n: usize, lasts: [u32; MAX_PARTITIONS]) -> bool
+fn backpointer_in_order(b: Backpointer, n: usize, lasts: [u32; MAX_PARTITIONS]) -> bool
     ensures { λ r. ⌜ r ≡ backpointerFine n lasts b ⌝ }
 {
     let fits = backpointer_in_range(b, n);
@@ -101,7 +101,7 @@ pub fn backpointer_in_order(b: Backpointer, n: usize, lasts: [u32; MAX_PARTITION
 }
 
 // The numbers are compared first: they differ soonest.
-pub fn entries_clash(a: Entry, b: Entry) -> bool
+fn entries_clash(a: Entry, b: Entry) -> bool
     ensures { λ r. ⌜ r ≡ entriesClash a b ⌝ }
 {
     if b.number == a.number {
@@ -115,14 +115,14 @@ pub fn entries_clash(a: Entry, b: Entry) -> bool
     names::same(m, n)
 }
 
-pub fn backpointers_clash(a: Backpointer, b: Backpointer) -> bool
+fn backpointers_clash(a: Backpointer, b: Backpointer) -> bool
     ensures { λ r. ⌜ r ≡ backpointersClash a b ⌝ }
 {
     let name = a.name;
     tables::reads::in_place(b, a.object, a.parent, a.directory, name)
 }
 
-pub fn records_clash(a: Record, b: Record) -> bool
+fn records_clash(a: Record, b: Record) -> bool
     ensures { λ r. ⌜ r ≡ recordsClash a b ⌝ }
 {
     b.number == a.number
@@ -130,7 +130,7 @@ pub fn records_clash(a: Record, b: Record) -> bool
 
 // ---- the entries of a partition
 
-pub fn each_entry_in_order(x: Entries, n: usize, last: u32) -> bool
+fn each_entry_in_order(x: Entries, n: usize, last: u32) -> bool
     requires { ⌜ x .count ≤ maxEntries ⌝ }
     ensures { λ r. ⌜ r ≡ all (entryFine n last) (entriesOf x) ⌝ }
 {
@@ -168,7 +168,7 @@ pub fn entries_apart(x: Entries) -> bool
     true
 }
 
-pub fn entries_in_order(x: Entries, n: usize, last: u32) -> bool
+fn entries_in_order(x: Entries, n: usize, last: u32) -> bool
     ensures { λ r. ⌜ r ≡ entriesFine n last x ⌝ }
 {
     if shapes::entries_shaped(x) {} else {
@@ -185,7 +185,7 @@ pub fn entries_in_order(x: Entries, n: usize, last: u32) -> bool
 
 // ---- its back-pointers
 
-pub fn each_backpointer_in_order(x: Backpointers, n: usize, lasts: [u32; MAX_PARTITIONS]) -> bool
+fn each_backpointer_in_order(x: Backpointers, n: usize, lasts: [u32; MAX_PARTITIONS]) -> bool
     requires { ⌜ x .count ≤ maxBackpointers ⌝ }
     ensures { λ r. ⌜ r ≡ all (backpointerFine n lasts) (backpointersOf x) ⌝ }
 {
@@ -223,7 +223,7 @@ pub fn backpointers_apart(x: Backpointers) -> bool
     true
 }
 
-pub fn backpointers_in_order(x: Backpointers, n: usize, lasts: [u32; MAX_PARTITIONS]) -> bool
+fn backpointers_in_order(x: Backpointers, n: usize, lasts: [u32; MAX_PARTITIONS]) -> bool
     ensures { λ r. ⌜ r ≡ backpointersFine n lasts x ⌝ }
 {
     if shapes::backpointers_shaped(x) {} else {
@@ -240,7 +240,7 @@ pub fn backpointers_in_order(x: Backpointers, n: usize, lasts: [u32; MAX_PARTITI
 
 // ---- its records
 
-pub fn each_record_in_order(x: Records, n: usize, last: u32) -> bool
+fn each_record_in_order(x: Records, n: usize, last: u32) -> bool
     requires { ⌜ x .count ≤ maxRecords ⌝ }
     ensures { λ r. ⌜ r ≡ all (recordFine n last) (recordsOf x) ⌝ }
 {
@@ -278,7 +278,7 @@ pub fn records_apart(x: Records) -> bool
     true
 }
 
-pub fn records_in_order(x: Records, n: usize, last: u32) -> bool
+fn records_in_order(x: Records, n: usize, last: u32) -> bool
     ensures { λ r. ⌜ r ≡ recordsFine n last x ⌝ }
 {
     if shapes::records_shaped(x) {} else {
@@ -293,14 +293,14 @@ pub fn records_in_order(x: Records, n: usize, last: u32) -> bool
     records_apart(x)
 }
 
-pub fn is_ready_record(r: Record) -> bool
+fn is_ready_record(r: Record) -> bool
     ensures { λ a. ⌜ a ≡ readyRecord r ⌝ }
 {
     let stage = r.stage;
     tables::elements::is_ready(stage)
 }
 
-pub fn all_ready(x: Records) -> bool
+fn all_ready(x: Records) -> bool
     requires { ⌜ x .count ≤ maxRecords ⌝ }
     ensures { λ r. ⌜ r ≡ all readyRecord (recordsOf x) ⌝ }
 {

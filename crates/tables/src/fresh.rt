@@ -63,7 +63,7 @@ pub fn no_messages() -> Queue
     }
 }
 
-pub fn empty_partition(up: bool) -> Partition
+fn empty_partition(up: bool) -> Partition
     ensures { λ r. ⌜ r ≡ emptyPartition up ⌝ }
 {
     let entries = no_entries();

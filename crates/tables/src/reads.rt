@@ -20,19 +20,19 @@ use protocol::Record;
 
 // ---- tests of one element
 
-pub fn entry_bears(e: Entry, number: u32) -> bool
+fn entry_bears(e: Entry, number: u32) -> bool
     ensures { λ r. ⌜ r ≡ entryBears number e ⌝ }
 {
     e.number == number
 }
 
-pub fn record_bears(r: Record, number: u32) -> bool
+fn record_bears(r: Record, number: u32) -> bool
     ensures { λ a. ⌜ a ≡ recordBears number r ⌝ }
 {
     r.number == number
 }
 
-pub fn stands_under(e: Entry, directory: u8, name: Name) -> bool
+fn stands_under(e: Entry, directory: u8, name: Name) -> bool
     ensures { λ r. ⌜ r ≡ standsUnder directory name e ⌝ }
 {
     let own = e.name;
@@ -49,7 +49,7 @@ pub fn in_place(b: Backpointer, object: u8, parent: u8, directory: u8, name: Nam
 }
 
 // The back-pointer that a request from partition s is about, its number too.
-pub fn is_exactly(b: Backpointer, s: u8, x: Message) -> bool
+fn is_exactly(b: Backpointer, s: u8, x: Message) -> bool
     ensures { λ r. ⌜ r ≡ isExactly s x b ⌝ }
 {
     let name = x.name;
@@ -57,7 +57,7 @@ pub fn is_exactly(b: Backpointer, s: u8, x: Message) -> bool
     (b.number == x.number) & placed
 }
 
-pub fn of_object(b: Backpointer, object: u8) -> bool
+fn of_object(b: Backpointer, object: u8) -> bool
     ensures { λ r. ⌜ r ≡ ofObject object b ⌝ }
 {
     b.object == object
@@ -163,7 +163,7 @@ pub fn find_object(l: Backpointers, object: u8) -> Found
 
 // ---- the sum in O5
 
-pub fn lacks_number(l: Entries, number: u32) -> bool
+fn lacks_number(l: Entries, number: u32) -> bool
     requires { ⌜ l .count ≤ maxEntries ⌝ }
     ensures { λ r. ⌜ r ≡ isNone (keep (entryBears number) (entriesOf l)) ⌝ }
 {
@@ -174,7 +174,7 @@ pub fn lacks_number(l: Entries, number: u32) -> bool
     }
 }
 
-pub fn is_unentered(l: Entries, r: Record) -> bool
+fn is_unentered(l: Entries, r: Record) -> bool
     requires { ⌜ l .count ≤ maxEntries ⌝ }
     ensures { λ a. ⌜ a ≡ unentered (entriesOf l) r ⌝ }
 {
@@ -185,7 +185,7 @@ pub fn is_unentered(l: Entries, r: Record) -> bool
     lacks_number(l, r.number)
 }
 
-pub fn count_unentered(entries: Entries, records: Records) -> usize
+fn count_unentered(entries: Entries, records: Records) -> usize
     requires { ⌜ (entries .count ≤ maxEntries) × (records .count ≤ maxRecords) ⌝ }
     ensures { λ r. ⌜ (r ≡ length (keep (unentered (entriesOf entries)) (recordsOf records))) × (r ≤ maxRecords) ⌝ }
 {
