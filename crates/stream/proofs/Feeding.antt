@@ -14,16 +14,15 @@ use Rattle.rehearsal.specs.Line.{commandOf}
 use Rattle.sessions.specs.Session.{responded}
 use Rattle.rehearsal.specs.Text.{Adds, lineEnd, lineText}
 use Rattle.rehearsal.specs.declared.Command.{Command}
+use Rattle.rehearsal.specs.declared.Numbers.{Numbers}
 use Rattle.sessions.specs.declared.Response.{Response}
 use Rattle.sessions.specs.declared.Session.{Session}
 use Rattle.deeds.specs.Deeds.{Does}
 use Rattle.deeds.specs.declared.Deed.{Deed}
-use Rattle.deeds.specs.declared.Way.the-variants.{Changes, Loses}
-use Rattle.losses.specs.Lost.{lost}
-use Rattle.losses.specs.declared.Loss.{Loss}
+use Rattle.deeds.specs.declared.Way.the-variants.{Changes}
 use Rattle.answers.specs.Change.{Sends, Takes, changed, fromOther, takenIf, takenQueues, toOther}
 use Rattle.protocol.specs.Bounds.{maxMessages, maxPartitions}
-use Rattle.tables.specs.View.{messagesOf, noQueue, pack, packQueue, partitionAt, queueAt, view}
+use Rattle.tables.specs.View.{messagesOf, noQueue, packQueue, partitionAt, queueAt}
 use Rattle.tables.specs.declared.Queue.{Queue}
 use Rattle.tables.specs.declared.Tables.{Tables}
 use Rattle.texts.proofs.Buffers.{adds-length, adds-nothing, adds-on}
@@ -95,21 +94,14 @@ module _ (x₀ : Midway Session) (block before : List ℕ) where
         let e : eqb (getD block i 0) lineEnd ≡ true = eq-eqb _ _ b in
         step h (lineText (n′ ∷ numbersOf (r .numbers))) (rw (e, en, er, ec)) l′ n′ s′ (rw (e, en, el, es, er, ec)) a p w q
 
-    -- a change of one partition was stored, and the tables are u
-    pub feed-deed : i < length block → getD block i 0 ≡ lineEnd → (n′ : ℕ) → n′ ≡ nextLine n → (c : Command) → c ≡ commandOf l → (d : Deed) → Does d (s .«open») (s .tables) (responded s c) → d .way ≡ Changes
-        → (a : List ℕ) (p : ℕ) → Adds (lineText (n′ ∷ numbersOf (d .numbers))) out place a p → p ≤ place + longestAnswer → (l′ : List ℕ) → l′ ≡ [] → (u : Tables) → u ≡ changed (s .tables) (d .change)
+    -- what the command leaves was stored, and the tables are u
+    pub feed-stored : i < length block → getD block i 0 ≡ lineEnd → (n′ : ℕ) → n′ ≡ nextLine n → (c : Command) → c ≡ commandOf l
+        → (ns : Numbers) (t : Tables) → record { numbers = ns; session = record { «open» = s .«open»; tables = t } } ≡ responded s c
+        → (a : List ℕ) (p : ℕ) → Adds (lineText (n′ ∷ numbersOf ns)) out place a p → p ≤ place + longestAnswer → (l′ : List ℕ) → l′ ≡ [] → (u : Tables) → u ≡ t
         → Feeding l′ n′ (record { «open» = s .«open»; tables = u }) a p (i + 1)
-    feed-deed h b n′ en c ec d ed k a p w q l′ el u eu =
-        let r : Response = record { numbers = d .numbers; session = record { «open» = s .«open»; tables = changed (s .tables) (d .change) } } in
-        feed-line h b n′ en c ec r (ed .gives k) a p w q l′ el (record { «open» = s .«open»; tables = u }) (ap (λ (j : Tables). record { «open» = s .«open»; tables = j }) eu)
-
-    -- what is lost was taken out, and the tables are u
-    pub feed-loss : i < length block → getD block i 0 ≡ lineEnd → (n′ : ℕ) → n′ ≡ nextLine n → (c : Command) → c ≡ commandOf l → (d : Deed) → Does d (s .«open») (s .tables) (responded s c)
-        → (loss : Loss) → d .way ≡ Loses loss → (a : List ℕ) (p : ℕ) → Adds (lineText (n′ ∷ numbersOf (d .numbers))) out place a p → p ≤ place + longestAnswer → (l′ : List ℕ) → l′ ≡ [] → (u : Tables) → u ≡ pack (lost loss (view (s .tables)))
-        → Feeding l′ n′ (record { «open» = s .«open»; tables = u }) a p (i + 1)
-    feed-loss h b n′ en c ec d ed loss k a p w q l′ el u eu =
-        let r : Response = record { numbers = d .numbers; session = record { «open» = s .«open»; tables = pack (lost loss (view (s .tables))) } } in
-        feed-line h b n′ en c ec r (ed .loses loss k) a p w q l′ el (record { «open» = s .«open»; tables = u }) (ap (λ (j : Tables). record { «open» = s .«open»; tables = j }) eu)
+    feed-stored h b n′ en c ec ns t er a p w q l′ el u eu =
+        let r : Response = record { numbers = ns; session = record { «open» = s .«open»; tables = t } } in
+        feed-line h b n′ en c ec r er a p w q l′ el (record { «open» = s .«open»; tables = u }) (ap (λ (j : Tables). record { «open» = s .«open»; tables = j }) eu)
 
     pub feed-byte : i < length block → (getD block i 0 ≡ lineEnd → ⊥) → (l′ : List ℕ) → l′ ≡ begunWith l (getD block i 0) → Feeding l′ n s out place (i + 1)
     feed-byte h b l′ el =

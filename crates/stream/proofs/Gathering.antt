@@ -16,7 +16,7 @@ use Rattle.rehearsal.specs.Line.{commandOf}
 use Rattle.sessions.specs.Session.{closedSession}
 use Rattle.rehearsal.specs.declared.Command.{Command}
 use Rattle.sessions.specs.declared.Session.{Session}
-use Rattle.feeding.specs.Feed.{begunWith, lineRoom, midway}
+use Rattle.feeding.specs.Feed.{begunWith, lineRoom}
 use Rattle.feeding.specs.Sessions.{atStart}
 use Rattle.stream.specs.Keeping.{lineOf, midwayOf}
 use Rattle.stream.specs.declared.blocks.Kept.{Kept}

@@ -1,4 +1,4 @@
-use Rattle.stream.proofs.Feeding.{Feeding, feed-deed, feed-kept, feed-line, feed-loss, feed-room, feed-said, feeding, from-most, from-packed, from-takes, kept-midway, one-less, partition-named, queue-named, session-asked, to-packed, to-sends}
+use Rattle.stream.proofs.Feeding.{Feeding, feed-kept, feed-line, feed-room, feed-said, feed-stored, feeding, from-most, from-packed, from-takes, kept-midway, one-less, partition-named, queue-named, session-asked, to-packed, to-sends}
 use Rattle.answers.proofs.Applied.{change-stores}
 use Rattle.feeding.specs.Feed.{midway}
 use Rattle.stream.specs.Keeping.{lineOf}
@@ -152,13 +152,12 @@ loop-less c = one-less _ _ (c .before .before .before .before .before .before .b
 
 loop-again : tie.Need-loop-again Inv-loop μ-loop
 loop-again c =
-    feed-deed _ _ _ _ _ _ _ _ _ (c .before .before .before .before .before .before .before .before .before .before .before .before .before .before .before .before .before .before .before .before .before .before .before .before .loop .inv)
+    feed-stored _ _ _ _ _ _ _ _ _ (c .before .before .before .before .before .before .before .before .before .before .before .before .before .before .before .before .before .before .before .before .before .before .before .before .loop .inv)
     (c .before .before .before .before .before .before .before .before .before .before .before .before .before .before .before .before .before .before .before .before .before .before .before .loop-test .taken)
     (c .before .before .before .before .before .before .before .before .before .before .before .before .before .before .before .before .before .before .before .before .before .if1 .taken)
     _ (c .before .before .before .before .before .before .before .before .before .before .before .before .before .before .before .before .before .before .before .before .next-line .ensures)
     _ (c .before .before .before .before .before .before .before .before .before .before .before .before .before .before .before .before .before .before .before .command-in .ensures)
-    _ (c .before .before .before .before .before .before .before .before .before .before .before .before .deed-of .ensures)
-    (c .before .before .before .before .before .before .before .before .before .before .enum-told .given .1)
+    _ _ (c .before .before .before .before .before .before .before .before .before .before .before .before .deed-of .ensures .gives (c .before .before .before .before .before .before .before .before .before .before .enum-told .given .1))
     _ _ (c .before .before .put-answer .ensures .0) (c .before .before .put-answer .ensures .1)
     _ (c .before .before .before .before .before .before .before .before .before .before .before .before .before .before .before .before .before .before .no-bytes .ensures)
     _ (change-stores _ _ _ refl _ (c .before .before .before .before .before .before .taken-if .ensures) _ refl _ (c .before .before .before .before .sent-if .ensures))
@@ -180,13 +179,12 @@ loop-less-2 c = one-less _ _ (c .before .before .before .before .before .before 
 
 loop-again-2 : tie.Need-loop-again-2 Inv-loop μ-loop
 loop-again-2 c =
-    feed-loss _ _ _ _ _ _ _ _ _ (c .before .before .before .before .before .before .before .before .before .before .before .before .before .before .before .before .before .before .before .before .before .before .before .loop .inv)
+    feed-stored _ _ _ _ _ _ _ _ _ (c .before .before .before .before .before .before .before .before .before .before .before .before .before .before .before .before .before .before .before .before .before .before .before .loop .inv)
     (c .before .before .before .before .before .before .before .before .before .before .before .before .before .before .before .before .before .before .before .before .before .before .loop-test .taken)
     (c .before .before .before .before .before .before .before .before .before .before .before .before .before .before .before .before .before .before .before .before .if1 .taken)
     _ (c .before .before .before .before .before .before .before .before .before .before .before .before .before .before .before .before .before .before .before .next-line .ensures)
     _ (c .before .before .before .before .before .before .before .before .before .before .before .before .before .before .before .before .before .before .command-in .ensures)
-    _ (c .before .before .before .before .before .before .before .before .before .before .before .deed-of .ensures)
-    (c .before .before .before .before .before .before .before .before .before .way .given .0 .0) (c .before .before .before .before .before .before .before .before .before .way .given .1)
+    _ _ (c .before .before .before .before .before .before .before .before .before .before .before .deed-of .ensures .loses (c .before .before .before .before .before .before .before .before .before .way .given .0 .0) (c .before .before .before .before .before .before .before .before .before .way .given .1))
     _ _ (c .before .before .put-answer2 .ensures .0) (c .before .before .put-answer2 .ensures .1)
     _ (c .before .before .before .before .before .before .before .before .before .before .before .before .before .before .before .before .before .no-bytes .ensures)
     _ (tables-left (c .before .before .before .before .before .before .before .before .before .way .given .0 .0) (c .before .before .before .before .before .before .before .before .before .before .before .before .before .before .before .before .before .before .before .before .before .before .before .loop .tables) (c .before .before .before .before .before .before .before .before .before .before .before .deed-of .ensures .sized (c .before .before .before .before .before .before .before .before .before .way .given .0 .0) (c .before .before .before .before .before .before .before .before .before .way .given .1)) (c .before .before .before .before .before .before .before .before .before .before .before .deed-of .ensures .ready (c .before .before .before .before .before .before .before .before .before .way .given .0 .0) (c .before .before .before .before .before .before .before .before .before .way .given .1)) _ _ (c .before .before .before .before .before .before .partitions-after .ensures) (c .before .before .before .before .queues-after .ensures))
