@@ -6,7 +6,6 @@ use Prim.Native.Nat.{_*_, _+_, _<_, _≤_, ℕ}
 use native.Mathlib.Omega.{arith}
 use lib.Dec.{ltb}
 use borrow.Author.Tests.{le-ltb, lt-ltb}
-use Rattle.lists.specs.Lists.{pick}
 use Rattle.lists.proofs.Tests.{no-true}
 use Rattle.protocol.specs.Advance.{advance}
 use Rattle.protocol.specs.Answers.{Outcome}

@@ -64,7 +64,7 @@ pub fn first_place(c: Command) -> usize
     place(n)
 }
 
-// And its second.
+// Where the partition stands that its second names.
 pub fn second_place(c: Command) -> usize
     ensures { λ r. ⌜ (r ≡ placeIn c 1) × (r < maxPartitions) ⌝ }
 {
@@ -105,7 +105,7 @@ fn with_change(change: Change) -> Deed
     }
 }
 
-// A refusal changes nothing: of the first partition what it is is stored.
+// A refusal changes nothing: the first partition is stored as it is.
 fn refused(t: Tables, why: Refusal) -> Deed
     requires { ⌜ Ready t ⌝ }
     ensures { λ d. ⌜ Does d true t (afterEvent (refusedWith t why)) ⌝ }

@@ -2,7 +2,6 @@ use mathlib.Core.Logic.{⊎-elim}
 use Prim.Native.Nat.{_-_, _≤_}
 use Rattle.protocol.specs.Bounds.{queueCount}
 use Rattle.tables.proofs.Known.{sized}
-use Rattle.lists.proofs.Arrays.{length-of}
 use Rattle.lists.proofs.Mapped.{Mapping}
 use Rattle.losses.specs.Lost.{queueAfter}
 use Rattle.losses.proofs.Loses.{queue-empties, queue-stays, queues-lost}
