@@ -11,7 +11,7 @@ use tables::{MAX_PARTITIONS, Partition, Queue, Tables, elements, writes};
 
 // The partition `at` becomes `partition`; the oldest message from `other` is taken if `takes`, and then `message` sent there if
 // `sends`.
-#[derive(Drop)]
+#[derive(Clone, Copy)]
 pub struct Change {
     pub answer: Answer,
     pub at: usize,

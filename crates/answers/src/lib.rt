@@ -9,7 +9,7 @@ pub mod changes;
 pub mod queues;
 
 // What a call answers, and the tables after it.
-#[derive(Drop)]
+#[derive(Clone, Copy)]
 pub struct Answered {
     pub answer: Answer,
     pub tables: Tables,

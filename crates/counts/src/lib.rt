@@ -13,7 +13,7 @@ use tables::{
 use texts::answer::at_most;
 
 // What stands in the tables over all partitions and queues.
-#[derive(Drop)]
+#[derive(Clone, Copy)]
 pub struct Sums {
     pub entries: u32,
     pub backpointers: u32,

@@ -24,7 +24,7 @@ use tables::{MAX_PARTITIONS, Partition, Queue, Tables};
 use texts::answer;
 
 // In which way a command is done, if it is one of these: a change is stored, or something is lost.
-#[derive(Drop)]
+#[derive(Clone, Copy)]
 pub enum Way {
     Unknown,
     Changes,
@@ -32,7 +32,7 @@ pub enum Way {
 }
 
 // The way, the answer, and the change that is stored in the one way.
-#[derive(Drop)]
+#[derive(Clone, Copy)]
 pub struct Deed {
     pub way: Way,
     pub numbers: Numbers,

@@ -15,7 +15,7 @@ use protocol::{Refusal, Reply};
 use tables::{MAX_PARTITIONS, Partition, Tables};
 
 // What a cut or a crash does: it is refused, or something is lost.
-#[derive(Drop)]
+#[derive(Clone, Copy)]
 pub enum Fault {
     Refused(Refusal),
     Loses(Loss),

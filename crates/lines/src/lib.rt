@@ -10,21 +10,21 @@ use rehearsal::{
 };
 
 // What a word is, where it should be a number: its value, and the place behind it.
-#[derive(Drop)]
+#[derive(Clone, Copy)]
 pub enum Number {
     Value(u32, usize),
     None,
 }
 
 // The name that a word spells, and the place behind the word.
-#[derive(Drop)]
+#[derive(Clone, Copy)]
 struct Spelling {
     pub name: Name,
     pub next: usize,
 }
 
 // A row of the table of commands: so many words behind the letter, and which of them is the name (`words`, where none is).
-#[derive(Drop)]
+#[derive(Clone, Copy)]
 struct Shape {
     pub verb: Verb,
     pub words: usize,

@@ -14,7 +14,7 @@ use protocol::{Record, Stage};
 use tables::{MAX_PARTITIONS, Partition, QUEUES, Queue, Records, Tables, elements, fresh};
 
 // What is lost: all between two partitions that are cut off from each other, or all of one that crashes.
-#[derive(Drop)]
+#[derive(Clone, Copy)]
 pub enum Loss {
     Cut(usize, usize),
     Crash(usize),

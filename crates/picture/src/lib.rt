@@ -35,7 +35,7 @@ pub const RECORD_SIZE: usize = 19;
 pub const CLOSE_SIZE: usize = 4;
 
 // The header: which partition, of how many, and the last number that it gave.
-#[derive(Drop)]
+#[derive(Clone, Copy)]
 pub struct Head {
     pub partition: u8,
     pub count: u8,
@@ -43,7 +43,7 @@ pub struct Head {
 }
 
 // In what every record between header and close ends: three bytes, a name and a number.
-#[derive(Drop)]
+#[derive(Clone, Copy)]
 pub struct Item {
     pub a: u8,
     pub b: u8,
@@ -53,47 +53,47 @@ pub struct Item {
 }
 
 // A header, or its refusal.
-#[derive(Drop)]
+#[derive(Clone, Copy)]
 pub struct HeadRead {
     pub refusal: Refusal,
     pub head: Head,
 }
 
 // A record, or its refusal and a zero one.
-#[derive(Drop)]
+#[derive(Clone, Copy)]
 pub struct EntryRead {
     pub refusal: Refusal,
     pub entry: Entry,
 }
 
-#[derive(Drop)]
+#[derive(Clone, Copy)]
 pub struct BackpointerRead {
     pub refusal: Refusal,
     pub backpointer: Backpointer,
 }
 
-#[derive(Drop)]
+#[derive(Clone, Copy)]
 pub struct RecordRead {
     pub refusal: Refusal,
     pub record: Record,
 }
 
 // The records of one kind from a place on, and the place behind them; or their refusal, and none.
-#[derive(Drop)]
+#[derive(Clone, Copy)]
 pub struct EntriesRead {
     pub refusal: Refusal,
     pub at: usize,
     pub entries: Entries,
 }
 
-#[derive(Drop)]
+#[derive(Clone, Copy)]
 pub struct BackpointersRead {
     pub refusal: Refusal,
     pub at: usize,
     pub backpointers: Backpointers,
 }
 
-#[derive(Drop)]
+#[derive(Clone, Copy)]
 pub struct RecordsRead {
     pub refusal: Refusal,
     pub at: usize,
@@ -101,7 +101,7 @@ pub struct RecordsRead {
 }
 
 // The records of every kind behind a header, and the place behind them; or their refusal, and none.
-#[derive(Drop)]
+#[derive(Clone, Copy)]
 pub struct TablesRead {
     pub refusal: Refusal,
     pub at: usize,
@@ -109,7 +109,7 @@ pub struct TablesRead {
 }
 
 // What a picture shows: whose tables, of how many partitions, and they, down and with records ready. Or its refusal, and nothing.
-#[derive(Drop)]
+#[derive(Clone, Copy)]
 pub struct PictureRead {
     pub refusal: Refusal,
     pub head: Head,
@@ -117,7 +117,7 @@ pub struct PictureRead {
 }
 
 // What stands at a place of a picture.
-#[derive(Drop)]
+#[derive(Clone, Copy)]
 pub enum Part {
     AtHead,
     AtEntry,
@@ -128,7 +128,7 @@ pub enum Part {
 }
 
 // What a reader hands out at a place, and the place where it stands next. What is not handed out is zero.
-#[derive(Drop)]
+#[derive(Clone, Copy)]
 pub struct Handed {
     pub part: Part,
     pub refusal: Refusal,

@@ -45,10 +45,10 @@ deliveries-steps m = all-each is_step (partition_count m) _ (λ s. all-each is_s
 candidates-steps : (m : Model) → all is_step (candidates m) ≡ true
 candidates-steps m = all_append is_step (advances m) (deliveries m) (advances-steps m) (deliveries-steps m)
 
-map-mem : (p : ℕ) (l : List Record) (r : Record) → Memᴰ r l
+map-mem : (p : ℕ) (r : Record) (l : List Record) → Memᴰ r l
     → Memᴰ (advancing p r.number) (map (λ (y : Record). advancing p y.number) l)
-map-mem p l r (mathlib.Core.List.Memᴰ.head e) = mathlib.Core.List.Memᴰ.head (ap (λ (y : Record). advancing p y.number) e)
-map-mem p (y ∷ l) r (mathlib.Core.List.Memᴰ.tail i) = mathlib.Core.List.Memᴰ.tail (map-mem p l r i)
+map-mem p r l (mathlib.Core.List.Memᴰ.head e) = mathlib.Core.List.Memᴰ.head (ap (λ (y : Record). advancing p y.number) e)
+map-mem p r (y ∷ l) (mathlib.Core.List.Memᴰ.tail i) = mathlib.Core.List.Memᴰ.tail (map-mem p r l i)
 
 advance-candidate : (m : Model) (p n : ℕ) → accepted (advance m p n) ≡ true → Memᴰ (advancing p n) (candidates m)
 unfolding advance check advances
@@ -66,7 +66,7 @@ advance-candidate m p n e =
         let i : Memᴰ r (partition m p).records = seen-mem (record_bears n) (partition m p).records rs r q in
         let nr : r.number ≡ n = eqb-true r.number n (kept (record_bears n) (partition m p).records r rs q) in
         mathlib.Core.List.Memᴰ.cast (ap (advancing p) (sym nr))
-        (mathlib.Core.List.Memᴰ.append_left (deliveries m) (each-mem (length m.partitions) _ p (advancing p r.number) h (map-mem p (partition m p).records r i)))
+        (mathlib.Core.List.Memᴰ.append_left (deliveries m) (each-mem (length m.partitions) _ p (advancing p r.number) h (map-mem p r (partition m p).records i)))
 
 deliver-candidate : (m : Model) (s r : ℕ) → accepted (deliver m s r) ≡ true → Memᴰ (delivering s r) (candidates m)
 unfolding deliver check deliveries

@@ -4,7 +4,7 @@ ghost use Rattle.protocol.specs.Claims.{OrderKept, Safety, Settles, Settling, Re
 
 use names::Name;
 
-#[derive(Drop)]
+#[derive(Clone, Copy)]
 pub enum Kind {
     Link,
     Create,
@@ -12,7 +12,7 @@ pub enum Kind {
 }
 
 // Why a request to add is answered no: replies 3 to 6.
-#[derive(Drop)]
+#[derive(Clone, Copy)]
 pub enum Reason {
     PlaceTaken,
     ObjectIdle,
@@ -21,7 +21,7 @@ pub enum Reason {
 }
 
 // Where a record stands: ready, sent, held or refused for link and create; ready, sent or cleared for unlink.
-#[derive(Drop)]
+#[derive(Clone, Copy)]
 pub enum Stage {
     Ready,
     Sent,
@@ -31,7 +31,7 @@ pub enum Stage {
 }
 
 // What a message says: a request, or the answer to one. A no to a request to add has its reason.
-#[derive(Drop)]
+#[derive(Clone, Copy)]
 pub enum Body {
     Request,
     Yes,
@@ -40,7 +40,7 @@ pub enum Body {
 }
 
 // The number of a partition, and the object's number there, say which object a name means.
-#[derive(Drop)]
+#[derive(Clone, Copy)]
 pub struct Entry {
     pub directory: u8,
     pub name: Name,
@@ -49,7 +49,7 @@ pub struct Entry {
     pub number: u32,
 }
 
-#[derive(Drop)]
+#[derive(Clone, Copy)]
 pub struct Backpointer {
     pub object: u8,
     pub parent: u8,
@@ -58,7 +58,7 @@ pub struct Backpointer {
     pub number: u32,
 }
 
-#[derive(Drop)]
+#[derive(Clone, Copy)]
 pub struct Record {
     pub kind: Kind,
     pub directory: u8,
@@ -69,7 +69,7 @@ pub struct Record {
     pub stage: Stage,
 }
 
-#[derive(Drop)]
+#[derive(Clone, Copy)]
 pub struct Message {
     pub body: Body,
     pub kind: Kind,
@@ -81,7 +81,7 @@ pub struct Message {
 }
 
 // What an advance tells the asker.
-#[derive(Drop)]
+#[derive(Clone, Copy)]
 pub enum Reply {
     None,
     Done,
@@ -90,7 +90,7 @@ pub enum Reply {
 }
 
 // The next step of an open record.
-#[derive(Drop)]
+#[derive(Clone, Copy)]
 pub enum Next {
     Closes(Reply),
     Sends,
@@ -101,7 +101,7 @@ pub enum Next {
 }
 
 // What the object's partition does with a request: it only says something, or says yes and adds or drops the back-pointer.
-#[derive(Drop)]
+#[derive(Clone, Copy)]
 pub enum Verdict {
     SaysOnly(Body),
     AddsIt,
@@ -109,7 +109,7 @@ pub enum Verdict {
 }
 
 // Why a call is refused: 0, accepted, to 23, in the order of document 01's table.
-#[derive(Drop)]
+#[derive(Clone, Copy)]
 pub enum Refusal {
     Accepted,
     OutOfRange,
@@ -138,7 +138,7 @@ pub enum Refusal {
 }
 
 // What a call answers: the refusal, the transaction number concerned, the reply.
-#[derive(Drop)]
+#[derive(Clone, Copy)]
 pub struct Answer {
     pub refusal: Refusal,
     pub number: u32,
@@ -146,7 +146,7 @@ pub struct Answer {
 }
 
 // What a settling run counts: its steps, its replies 1 and its other replies.
-#[derive(Drop)]
+#[derive(Clone, Copy)]
 pub struct Tally {
     pub steps: u32,
     pub ones: u32,

@@ -6,7 +6,7 @@ ghost use Rattle.reader.specs.Walk.{WalkReads};
 use picture::Handed;
 
 // A picture, and the place in it where the reader stands.
-#[derive(Drop)]
+#[derive(Clone, Copy)]
 pub struct Reader<'a> {
     pub src: &'a [u8],
     pub at: usize,

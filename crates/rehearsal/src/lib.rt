@@ -29,7 +29,7 @@ pub const SIDE: usize = 4;
 // The largest number of a line.
 pub const LARGEST_NUMBER: u64 = 4294967295;
 
-#[derive(Drop)]
+#[derive(Clone, Copy)]
 pub enum Verb {
     Open,
     Link,
@@ -47,7 +47,7 @@ pub enum Verb {
 }
 
 // What a line asks. The number of the word at place k stands at place k, and 0 where that word is a name, or where there is none.
-#[derive(Drop)]
+#[derive(Clone, Copy)]
 pub struct Command {
     pub verb: Verb,
     pub name: Name,
@@ -55,7 +55,7 @@ pub struct Command {
 }
 
 // What a line answers, behind its own number.
-#[derive(Drop)]
+#[derive(Clone, Copy)]
 pub struct Numbers {
     pub count: usize,
     pub values: [u32; NUMBERS],

@@ -14,14 +14,14 @@ use tables::Tables;
 use texts::answer;
 
 // Between two lines. Before the first accepted `P` it is not open, and its tables are nobody's.
-#[derive(Drop)]
+#[derive(Clone, Copy)]
 pub struct Session {
     pub open: bool,
     pub tables: Tables,
 }
 
 // What a command answers, and the session after it.
-#[derive(Drop)]
+#[derive(Clone, Copy)]
 pub struct Response {
     pub numbers: Numbers,
     pub session: Session,

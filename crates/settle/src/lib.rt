@@ -11,7 +11,7 @@ use tables::Tables;
 pub mod run; // steps until none is accepted, counted
 
 // What a settling run gives.
-#[derive(Drop)]
+#[derive(Clone, Copy)]
 pub struct Settled {
     pub refusal: Refusal,
     pub tally: Tally,

@@ -14,7 +14,7 @@ use protocol::Reply;
 use tables::{Records, Tables};
 
 // What a settling step gives: whether one was accepted, its reply, and the tables after it.
-#[derive(Drop)]
+#[derive(Clone, Copy)]
 pub struct Step {
     pub moved: bool,
     pub reply: Reply,

@@ -20,14 +20,14 @@ use texts::text;
 const LINE_ROOM: usize = LINE_BYTES + 1;
 
 // A line that has begun.
-#[derive(Drop)]
+#[derive(Clone, Copy)]
 pub struct Line {
     pub len: usize,
     pub bytes: [u8; LINE_ROOM],
 }
 
 // What is kept between two blocks: the line that has begun, how many lines were answered, and the session.
-#[derive(Drop)]
+#[derive(Clone, Copy)]
 pub struct Kept {
     pub line: Line,
     pub lines: u64,
@@ -35,7 +35,7 @@ pub struct Kept {
 }
 
 // What a block leaves: what is kept, and the place behind its answers.
-#[derive(Drop)]
+#[derive(Clone, Copy)]
 pub struct Fed {
     pub kept: Kept,
     pub place: usize,

@@ -23,7 +23,7 @@ fn empty_room() -> [u8; ROOM]
 }
 
 // What a turn leaves: so many bytes were read, their answers end at this place, and whether they could be written.
-#[derive(Drop)]
+#[derive(Clone, Copy)]
 struct Turn {
     pub read: usize,
     pub place: usize,

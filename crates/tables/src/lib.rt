@@ -25,31 +25,31 @@ pub const LARGEST_NUMBER: u32 = 4294967295;
 // One queue for each ordered pair of partitions.
 pub const QUEUES: usize = 16;
 
-#[derive(Drop)]
+#[derive(Clone, Copy)]
 pub struct Entries {
     pub count: usize,
     pub items: [Entry; MAX_ENTRIES],
 }
 
-#[derive(Drop)]
+#[derive(Clone, Copy)]
 pub struct Backpointers {
     pub count: usize,
     pub items: [Backpointer; MAX_BACKPOINTERS],
 }
 
-#[derive(Drop)]
+#[derive(Clone, Copy)]
 pub struct Records {
     pub count: usize,
     pub items: [Record; MAX_RECORDS],
 }
 
-#[derive(Drop)]
+#[derive(Clone, Copy)]
 pub struct Queue {
     pub count: usize,
     pub items: [Message; MAX_MESSAGES],
 }
 
-#[derive(Drop)]
+#[derive(Clone, Copy)]
 pub struct Partition {
     pub up: bool,
     pub last: u32,
@@ -59,7 +59,7 @@ pub struct Partition {
 }
 
 // The queue from s to r stands at place s * 4 + r.
-#[derive(Drop)]
+#[derive(Clone, Copy)]
 pub struct Tables {
     pub count: usize,
     pub partitions: [Partition; MAX_PARTITIONS],

@@ -11,7 +11,7 @@ mod put; // numbers and bytes
 mod whole; // a partition's picture, from header to close
 
 // What the writer reports.
-#[derive(Drop)]
+#[derive(Clone, Copy)]
 pub struct Reported {
     pub refusal: Refusal, // Accepted, OutOfOrder (16), OutOfRange (1) or RoomTooShort (22)
     pub size: usize, // how many bytes of the room were written, from its start; 0 if refused
