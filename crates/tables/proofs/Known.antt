@@ -68,12 +68,12 @@ module _ (t : Tables) (vs : List Val) (h : Is tables.the_row t vs) where
 
   partition-sized : (i : ℕ) → i < max_partitions → SizedPartition (partition_at t i)
   partition-sized i l =
-      let w = array_at partition.the_field max_partitions t.partitions _ h.1.1.1.0 i l no_partition in
+      let w = array_at partition.the_row max_partitions t.partitions _ h.1.1.1.0 i l no_partition in
       sized-partition (partition_at t i) (w.0 ∷ []) w.1
 
   queue-sized : (k : ℕ) → k < queue_count → length (queue_at t k).items ≡ max_messages
   queue-sized i l =
-      let w = array_at queue.the_field queue_count t.queues _ h.1.1.1.1.0 i l no_queue in
+      let w = array_at queue.the_row queue_count t.queues _ h.1.1.1.1.0 i l no_queue in
       messages-length (queue_at t i) (w.0 ∷ []) w.1
 
   pub sized : Sized t

@@ -1,0 +1,7 @@
+use Rattle.tables.specs.Slots.{free_record}
+use Rattle.std.proofs.Common.{rules}
+use Rattle.tables.proofs.elements.free_record.Goals as goal
+
+pub returns : goal.returns
+unfolding free_record
+returns c = cc

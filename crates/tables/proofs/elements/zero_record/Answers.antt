@@ -1,0 +1,7 @@
+use Rattle.tables.specs.Slots.{zero_record}
+use Rattle.std.proofs.Common.{rules}
+use Rattle.tables.proofs.elements.zero_record.Goals as goal
+
+pub returns : goal.returns
+unfolding zero_record
+returns c = cc

@@ -1,0 +1,17 @@
+use mathlib.Core.Bool.{false}
+use Prim.Native.Nat.{◌-◌, ◌≤◌}
+use Rattle.protocol.specs.Bounds.{max_partitions}
+use Rattle.tables.specs.View.{empty_partition}
+use Rattle.lists.proofs.Repeats.{Setting, setting-turn}
+use Rattle.tables.proofs.Opened.{freshes}
+use Rattle.std.proofs.Common.{rules}
+use Rattle.tables.proofs.fresh.fresh.Goals as goal
+
+pub loop-i-init : goal.loop-i-init
+loop-i-init c = search (freshes, rules)
+
+pub loop-i-preserved : goal.loop-i-preserved
+loop-i-preserved c = (search rules, setting-turn max_partitions _ _ c.loop-i.i c.loop-i.partitions c.loop-i.invariant.1 (search rules))
+
+pub returns : goal.returns
+returns c = search (freshes, rules)

@@ -1,0 +1,7 @@
+use Rattle.lists.specs.Lists.{pad}
+use Rattle.std.proofs.Common.{rules}
+use Rattle.tables.proofs.fresh.no_records.Goals as goal
+
+pub returns : goal.returns
+unfolding pad
+returns c = cc

@@ -1,0 +1,13 @@
+use Prim.Native.Nat.{◌-◌, ◌≤◌}
+use Rattle.protocol.specs.Tables.{unentered}
+use Rattle.tables.specs.View.{entries_of}
+use Rattle.lists.proofs.Loops.{Counting, countings}
+use Rattle.tables.proofs.Known.{records-fit}
+use Rattle.std.proofs.Common.{rules}
+use Rattle.tables.proofs.reads.count_unentered.Goals as goal
+
+pub loop-i-preserved : goal.loop-i-preserved
+loop-i-preserved c = search (countings, records-fit, rules)
+
+pub returns : goal.returns
+returns c = search (countings, records-fit, rules)

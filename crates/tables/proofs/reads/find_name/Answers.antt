@@ -1,0 +1,17 @@
+use Prim.Native.Nat.{◌-◌, ◌≤◌}
+use Rattle.lists.specs.Lists.{first_at}
+use Rattle.protocol.specs.Tables.{stands_under}
+use Rattle.tables.specs.View.{entries_of}
+use Rattle.lists.proofs.Loops.{Finding, finds}
+use Rattle.tables.proofs.Known.{entries_fit}
+use Rattle.std.proofs.Common.{rules}
+use Rattle.tables.proofs.reads.find_name.Goals as goal
+
+pub returns-then-stands_under : goal.returns-then-stands_under
+returns-then-stands_under c = search (finds, entries_fit, rules)
+
+pub loop-i-preserved : goal.loop-i-preserved
+loop-i-preserved c = search (finds, entries_fit, rules)
+
+pub returns : goal.returns
+returns c = search (finds, entries_fit, rules)

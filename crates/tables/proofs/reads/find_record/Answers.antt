@@ -1,0 +1,17 @@
+use Prim.Native.Nat.{◌-◌, ◌≤◌}
+use Rattle.lists.specs.Lists.{first_at}
+use Rattle.protocol.specs.Tables.{record_bears}
+use Rattle.tables.specs.View.{records_of}
+use Rattle.lists.proofs.Loops.{Finding, finds}
+use Rattle.tables.proofs.Known.{records-fit}
+use Rattle.std.proofs.Common.{rules}
+use Rattle.tables.proofs.reads.find_record.Goals as goal
+
+pub returns-then-record_bears : goal.returns-then-record_bears
+returns-then-record_bears c = search (finds, records-fit, rules)
+
+pub loop-i-preserved : goal.loop-i-preserved
+loop-i-preserved c = search (finds, records-fit, rules)
+
+pub returns : goal.returns
+returns c = search (finds, records-fit, rules)

@@ -1,0 +1,17 @@
+use Rattle.tables.specs.Slots.{no_backpointer}
+use Rattle.protocol.specs.Bounds.{max_backpointers}
+use Rattle.tables.proofs.Written.{removed-backpointer}
+use Rattle.lists.proofs.Gaps.{Gap, gap-start, gap-turn}
+use Rattle.tables.proofs.Known.{backpointers-length}
+use Prim.Native.Nat.{◌-◌, ◌≤◌}
+use Rattle.std.proofs.Common.{rules}
+use Rattle.tables.proofs.writes.remove_backpointer.Goals as goal
+
+pub loop-i-init : goal.loop-i-init
+loop-i-init c = search (gap-start, gap-turn no_backpointer, removed-backpointer, backpointers-length, rules)
+
+pub loop-i-preserved : goal.loop-i-preserved
+loop-i-preserved c = search (gap-start, gap-turn no_backpointer, removed-backpointer, backpointers-length, rules)
+
+pub returns : goal.returns
+returns c = search (gap-start, gap-turn no_backpointer, removed-backpointer, backpointers-length, rules)

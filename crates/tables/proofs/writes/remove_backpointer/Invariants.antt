@@ -1,0 +1,13 @@
+use Rattle.tables.specs.Slots.{no_backpointer}
+use Rattle.protocol.specs.Bounds.{max_backpointers}
+use Rattle.tables.proofs.Written.{removed-backpointer}
+use Rattle.lists.proofs.Gaps.{Gap, gap-start, gap-turn}
+use Rattle.tables.proofs.Known.{backpointers-length}
+use Prim.Native.Nat.{◌-◌, ◌≤◌}
+use Rattle.tables.proofs.writes.remove_backpointer.Given as goal
+
+abbrev pub invariant-loop-i : goal.invariant-loop-i
+invariant-loop-i l = (l.i ≤ l.last) × Gap max_backpointers l.last l.initial.items l.at l.i l.items
+
+abbrev pub decreases-loop-i : goal.decreases-loop-i
+decreases-loop-i l = l.last - l.i

@@ -1,0 +1,17 @@
+use Rattle.tables.specs.Slots.{no_message}
+use Rattle.protocol.specs.Bounds.{max_messages}
+use Rattle.tables.proofs.Written.{removed-message}
+use Rattle.lists.proofs.Gaps.{Gap, gap-start, gap-turn}
+use Rattle.tables.proofs.Known.{messages-length}
+use Prim.Native.Nat.{◌-◌, ◌≤◌}
+use Rattle.std.proofs.Common.{rules}
+use Rattle.tables.proofs.writes.remove_message.Goals as goal
+
+pub loop-i-init : goal.loop-i-init
+loop-i-init c = search (gap-start, gap-turn no_message, removed-message, messages-length, rules)
+
+pub loop-i-preserved : goal.loop-i-preserved
+loop-i-preserved c = search (gap-start, gap-turn no_message, removed-message, messages-length, rules)
+
+pub returns : goal.returns
+returns c = search (gap-start, gap-turn no_message, removed-message, messages-length, rules)
