@@ -1,0 +1,13 @@
+use Rattle.deliveries.proofs.Receives.{answers}
+use Rattle.tables.proofs.Known.{sized}
+use Rattle.std.proofs.Common.{rules}
+use Rattle.deliveries.proofs.answer.Goals as goal
+
+pub verdict-v-requires : goal.verdict-v-requires
+verdict-v-requires c = search (answers, sized, rules)
+
+pub carry_out-requires : goal.carry_out-requires
+carry_out-requires c = search (answers, sized, rules)
+
+pub returns-clause-result_value : goal.returns-clause-result_value
+returns-clause-result_value c = search (answers, sized, rules)

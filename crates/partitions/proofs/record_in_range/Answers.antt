@@ -1,0 +1,7 @@
+use Rattle.partitions.specs.Clauses.{record_among}
+use Rattle.std.proofs.Common.{rules}
+use Rattle.partitions.proofs.record_in_range.Goals as goal
+
+pub returns : goal.returns
+unfolding record_among
+returns c = cc

@@ -1,0 +1,16 @@
+use Rattle.verdicts.proofs.Verdicts.{places}
+use Rattle.lists.proofs.Finds.{found_below, found_in, found-fits}
+use Rattle.std.proofs.Common.{rules}
+use Rattle.verdicts.proofs.to_add.Goals as goal
+
+pub offset_bounds-l-i : goal.offset_bounds-l-i
+offset_bounds-l-i c = search (places, found_below, found_in, found-fits, rules)
+
+pub bounds-l-i : goal.bounds-l-i
+bounds-l-i c = search (places, found_below, found_in, found-fits, rules)
+
+pub returns-in-Nothing : goal.returns-in-Nothing
+returns-in-Nothing c = search (places, found_below, found_in, found-fits, rules)
+
+pub returns-in-At : goal.returns-in-At
+returns-in-At c = search (places, found_below, found_in, found-fits, rules)
