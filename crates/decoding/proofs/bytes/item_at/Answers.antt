@@ -1,0 +1,6 @@
+use Rattle.decoding.proofs.Fields.{fields}
+use Rattle.std.proofs.Common.{rules}
+use Rattle.decoding.proofs.bytes.item_at.Goals as goal
+
+pub returns : goal.returns
+returns c = search (fields, rules)

@@ -1,0 +1,28 @@
+use Prim.Native.Nat.{◌-◌}
+use lib.ListN.{length}
+use Rattle.protocol.specs.Bounds.{max_backpointers}
+use Rattle.tables.specs.Slots.{zero_backpointer}
+use Rattle.picture.specs.Picture.{first, bp, backpointer_fits}
+use Rattle.decoding.proofs.Fields.{mark-bp, short-bp}
+use Rattle.reading.proofs.Gathers.{Walking, gather-end, gather-fail, gather-full, gather-less, gather-start, gather-turn, walk-place}
+use borrow.Author.Rules.{part_to_end}
+use Rattle.std.proofs.Common.{rules}
+use Rattle.reading.proofs.sections.read_backpointers.Goals as goal
+
+pub loop-h-init : goal.loop-h-init
+loop-h-init c = search (gather-start, rules)
+
+pub returns-else-accepted : goal.returns-else-accepted
+returns-else-accepted c = search (gather-fail, mark-bp, part_to_end, rules)
+
+pub returns-then-count-ge-MAX_BACKPOINTERS : goal.returns-then-count-ge-MAX_BACKPOINTERS
+returns-then-count-ge-MAX_BACKPOINTERS c = search (gather-full, mark-bp, part_to_end, rules)
+
+pub loop-h-smaller : goal.loop-h-smaller
+loop-h-smaller c = search (gather-less, mark-bp, part_to_end, short-bp, rules)
+
+pub loop-h-preserved : goal.loop-h-preserved
+loop-h-preserved c = search (gather-turn, mark-bp, part_to_end, short-bp, rules)
+
+pub returns : goal.returns
+returns c = search (gather-end, mark-bp, rules)

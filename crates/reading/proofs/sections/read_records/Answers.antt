@@ -1,0 +1,28 @@
+use Prim.Native.Nat.{◌-◌}
+use lib.ListN.{length}
+use Rattle.protocol.specs.Bounds.{max_records}
+use Rattle.tables.specs.Slots.{zero_record}
+use Rattle.picture.specs.Picture.{first, lg, record_fits}
+use Rattle.decoding.proofs.Fields.{mark-lg, short-lg}
+use Rattle.reading.proofs.Gathers.{Walking, gather-end, gather-fail, gather-full, gather-less, gather-start, gather-turn, walk-place}
+use borrow.Author.Rules.{part_to_end}
+use Rattle.std.proofs.Common.{rules}
+use Rattle.reading.proofs.sections.read_records.Goals as goal
+
+pub loop-h-init : goal.loop-h-init
+loop-h-init c = search (gather-start, rules)
+
+pub returns-else-accepted : goal.returns-else-accepted
+returns-else-accepted c = search (gather-fail, mark-lg, part_to_end, rules)
+
+pub returns-then-count-ge-MAX_RECORDS : goal.returns-then-count-ge-MAX_RECORDS
+returns-then-count-ge-MAX_RECORDS c = search (gather-full, mark-lg, part_to_end, rules)
+
+pub loop-h-smaller : goal.loop-h-smaller
+loop-h-smaller c = search (gather-less, mark-lg, part_to_end, short-lg, rules)
+
+pub loop-h-preserved : goal.loop-h-preserved
+loop-h-preserved c = search (gather-turn, mark-lg, part_to_end, short-lg, rules)
+
+pub returns : goal.returns
+returns c = search (gather-end, mark-lg, rules)
