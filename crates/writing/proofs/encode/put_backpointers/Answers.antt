@@ -1,0 +1,12 @@
+use Prim.Native.Nat.{◌-◌, ◌≤◌}
+use Rattle.tables.proofs.Known.{backpointers-fit}
+use Rattle.picture.specs.Picture.{first, bp}
+use Rattle.writing.proofs.Puttings.{Laying, lay-end, lay-room, lay-start, lay-turn}
+use Rattle.std.proofs.Common.{rules}
+use Rattle.writing.proofs.encode.put_backpointers.Goals as goal
+
+pub loop-i-init : goal.loop-i-init
+loop-i-init c = (search rules, search (lay-start, rules))
+
+pub loop-i-preserved : goal.loop-i-preserved
+loop-i-preserved c = (search rules, search (lay-turn, backpointers-fit, rules))

@@ -1,0 +1,11 @@
+use Prim.Native.Nat.{◌-◌, ◌≤◌}
+use Rattle.tables.proofs.Known.{backpointers-fit}
+use Rattle.picture.specs.Picture.{first, bp}
+use Rattle.writing.proofs.Puttings.{Laying, lay-end, lay-room, lay-start, lay-turn}
+use Rattle.writing.proofs.encode.put_backpointers.Given as goal
+
+abbrev pub invariant-loop-i : goal.invariant-loop-i
+invariant-loop-i l = (l.i ≤ l.n) × Laying (bp first) 18 l.initial.buf l.from l.backpointers.items l.buf l.at l.i
+
+abbrev pub decreases-loop-i : goal.decreases-loop-i
+decreases-loop-i l = l.n - l.i

@@ -1,0 +1,11 @@
+use Prim.Native.Nat.{◌-◌, ◌≤◌}
+use Rattle.tables.proofs.Known.{records-fit}
+use Rattle.picture.specs.Picture.{first, lg}
+use Rattle.writing.proofs.Puttings.{Laying, lay-end, lay-room, lay-start, lay-turn}
+use Rattle.writing.proofs.encode.put_records.Given as goal
+
+abbrev pub invariant-loop-i : goal.invariant-loop-i
+invariant-loop-i l = (l.i ≤ l.n) × Laying (lg first) 19 l.initial.buf l.from l.records.items l.buf l.at l.i
+
+abbrev pub decreases-loop-i : goal.decreases-loop-i
+decreases-loop-i l = l.n - l.i

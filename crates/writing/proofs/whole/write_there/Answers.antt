@@ -1,0 +1,20 @@
+use Rattle.writing.proofs.Writes.{writes}
+use Rattle.answers.proofs.Ways.{ready-count}
+use Rattle.tables.proofs.Known.{sized}
+use Rattle.std.proofs.Common.{rules}
+use Rattle.writing.proofs.whole.write_there.Goals as goal
+
+pub size_of-size-requires : goal.size_of-size-requires
+size_of-size-requires c = search (writes, ready-count, sized, rules)
+
+pub returns-then-room-size : goal.returns-then-room-size
+returns-then-room-size c = search (writes, ready-count, sized, rules)
+
+pub head_of-head-requires : goal.head_of-head-requires
+head_of-head-requires c = search (writes, ready-count, sized, rules)
+
+pub put_picture-requires : goal.put_picture-requires
+put_picture-requires c = search (writes, ready-count, sized, rules)
+
+pub returns : goal.returns
+returns c = search (writes, ready-count, sized, rules)
