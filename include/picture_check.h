@@ -1,4 +1,4 @@
-/* The check of a lone picture (crates/capi). Link target/staticlib/libcapi.a, which `rt staticlib capi` writes. */
+/* The check of a lone picture (crates/capi). Link crates/capi/out/libcapi.a, which `rt lib` writes in crates/capi. */
 #ifndef PICTURE_CHECK_H
 #define PICTURE_CHECK_H
 

@@ -153,7 +153,7 @@ fn main() -> Result<(), Box<dyn Error>> {
         .parent()
         .ok_or("bench stands in no folder")?;
     let second = root.join("target/cargo/release/second");
-    let programs = [root.join("target/bin/rehearse"), second];
+    let programs = [root.join("crates/rehearse/out/rehearse"), second];
     let folder = env::temp_dir().join(format!("calls-{}", std::process::id()));
     fs::create_dir_all(&folder)?;
     println!(

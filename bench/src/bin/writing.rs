@@ -258,7 +258,7 @@ fn program() -> Result<PathBuf, Box<dyn Error>> {
     let root = Path::new(env!("CARGO_MANIFEST_DIR"))
         .parent()
         .ok_or("bench stands in no folder")?;
-    Ok(root.join("target/bin/rewrite"))
+    Ok(root.join("crates/rewrite/out/rewrite"))
 }
 
 fn main() -> Result<(), Box<dyn Error>> {

@@ -1,26 +1,20 @@
 // Runs the schedules of data/ that its arguments name, each from a fresh start: `rt ci` compares the answers with stdout.
-use libc::STDOUT_FILENO;
+use std::{env, fs, io};
 
-fn rehearse_named(i: usize) {
-    let mut name = io::buffer();
-    let length = os::arg(i, &mut name);
-    io::write_all(STDOUT_FILENO, b"# ");
-    io::write_all(STDOUT_FILENO, &name[..length]);
-    io::write_all(STDOUT_FILENO, b"\n");
-    let fd = os::open_read(&name[..length]);
-    if fd < 0 {
-        os::fail(&name[..length]);
-        return;
+fn rehearse_named(rt: &HostRuntime, name: &str) -> io::Result<()> {
+    println!(rt; "# {name}")?;
+    match fs::open(rt, name) {
+        Ok(mut schedule) => {
+            stream::run(&mut schedule, &mut rt.stdout());
+            Ok(())
+        }
+        Err(why) => eprintln!(rt; "{name}: {why}"),
     }
-    stream::run(fd);
-    libc::close(fd);
 }
 
-fn main() {
-    let count = os::arg_count();
-    let mut i = 1;
-    while i < count {
-        rehearse_named(i);
-        i += 1;
+fn main(rt: HostRuntime) -> io::Result<()> {
+    for name in env::args(&rt)?.skip(1) {
+        rehearse_named(&rt, name.as_str())?;
     }
+    Ok(())
 }

@@ -1,5 +1,5 @@
 -- What the program does between its input and its output: how often, into which tables, and what is left in the room.
-use Rattle.std.specs.Prelude.{ℕ, suc, zero, List, ltb, length}
+use Rattle.std.specs.Prelude.{ℕ, suc, zero, List, ltb, length, take, ◌≤◌, ◌≡◌}
 use Rattle.lists.specs.Lists.{pick}
 use Rattle.protocol.specs.Events.{crashing, opening}
 use Rattle.protocol.specs.Tables.{fresh}
@@ -30,3 +30,7 @@ awaiting h = (called (called (pack (fresh 0)) (opening h.count)).tables (crashin
 unfoldable pub again : Tables → ℕ → ℕ → List ℕ → Written
 again t p zero room = unwritten Accepted room
 again t p (suc n) room = written_from t p (again t p n room).room
+
+-- so many bytes stand at the start of a buffer: `&xs[..n]` is within it and has n bytes
+abbrev pub Counts : ℕ → List ℕ → Type 0
+Counts n xs = (n ≤ length xs) × (n ≡ length (take n xs))

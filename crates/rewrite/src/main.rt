@@ -2,21 +2,23 @@
 // into fresh tables, and written from them as many times as the argument says. Standard output has what the last time left, the same
 // bytes. One time shows that; many are for measuring one (bench/). Where something is refused, its number stands there instead: so
 // is a back-pointer of another partition's (16), since in fresh tables the others have given no number.
-ghost use Rattle.std.specs.Prelude.{◌≡◌};
-ghost use Rattle.io.specs.Counts.{IsPrefixLen};
+ghost use Rattle.std.specs.Prelude.{◌≡◌, ◌≤◌, IfOk, length};
 ghost use Rattle.loading.specs.Loaded.{loaded};
 ghost use Rattle.writing.specs.Written.{after};
-ghost use Rattle.rewrite.specs.Again.{again, awaiting, times_of};
+ghost use Rattle.rewrite.specs.Again.{Counts, again, awaiting, times_of};
 
 use answers::Answered;
-use libc::{STDIN_FILENO, STDOUT_FILENO};
 use lines::{Number, number_at};
 use numbers::{accepted, refusal_number};
 use picture::Head;
 use protocol::Refusal;
 use reading::read_picture;
+use std::io::{Read, Write};
+use std::{env, io};
 use tables::Tables;
 use writing::{Reported, write_picture};
+
+const BUFFER: usize = 4096;
 
 // How many times, as a decimal says it; of anything else none, and then nothing is written.
 fn times_of(word: &[u8]) -> u32
@@ -53,7 +55,7 @@ fn load_alone(head: Head, bytes: &[u8]) -> Answered
 // Each time the whole of the picture is written over what the time before it left.
 fn write_times(t: Tables, p: u32, times: u32, room: &mut [u8]) -> Reported
     ensures room_after { after result room.new ≡ again t p times room.old }
-    ensures prefix_len { IsPrefixLen result.size room.new }
+    ensures prefix_len { Counts result.size room.new }
 {
     let mut told = Reported {
         refusal: Refusal::Accepted,
@@ -67,52 +69,69 @@ fn write_times(t: Tables, p: u32, times: u32, room: &mut [u8]) -> Reported
     told
 }
 
-fn tell(why: Refusal) {
+fn tell(rt: &HostRuntime, why: Refusal) -> io::Result<()> {
     let number = refusal_number(why);
-    io::print_decimal(STDOUT_FILENO, number as u64);
-    io::write_all(STDOUT_FILENO, b"\n");
+    println!(rt; "{number}")
 }
 
 // The picture where it was written, or else why it was not.
-fn show(told: Reported, room: &[u8])
-    requires { IsPrefixLen told.size room.now }
+fn show(rt: &HostRuntime, told: Reported, room: &[u8]) -> io::Result<()>
+    requires { Counts told.size room.now }
 {
     let refusal = told.refusal;
     if accepted(refusal) {} else {
-        tell(refusal);
-        return;
+        return tell(rt, refusal);
     }
     let size = told.size;
-    io::write_all(STDOUT_FILENO, &room[..size]);
+    rt.stdout().write_all(&room[..size])
 }
 
-fn rewrite(bytes: &[u8], times: u32, room: &mut [u8]) {
+fn rewrite(rt: &HostRuntime, bytes: &[u8], times: u32, room: &mut [u8]) -> io::Result<()> {
     let got = read_picture(bytes);
     let first = got.refusal;
     if accepted(first) {} else {
-        tell(first);
-        return;
+        return tell(rt, first);
     }
     let head = got.head;
     let loaded = load_alone(head, bytes);
     let answer = loaded.answer;
     let second = answer.refusal;
     if accepted(second) {} else {
-        tell(second);
-        return;
+        return tell(rt, second);
     }
     let t = loaded.tables;
     let told = write_times(t, head.partition as u32, times, room);
-    show(told, room);
+    show(rt, told, room)
+}
+
+// Reads until the buffer is full or the input ends, and says how many bytes it has then.
+fn read_full<R: Read>(from: &mut R, bytes: &mut [u8]) -> io::Result<usize>
+    ensures { IfOk result (λ n. n ≤ length bytes.new) }
+{
+    let mut size: usize = 0;
+    while size < bytes.len() {
+        let read = from.read(&mut bytes[size..])?;
+        if read == 0 {
+            return Ok(size);
+        }
+        size += read;
+    }
+    Ok(size)
+}
+
+// How many times the first argument says; none where there is none.
+fn times_told(rt: &HostRuntime) -> io::Result<u32> {
+    match env::args(rt)?.nth(1) {
+        Some(word) => Ok(times_of(word.as_bytes())),
+        None => Ok(0),
+    }
 }
 
 // The buffers have more bytes than the largest picture, 2,620: what fills one is refused.
-fn main() {
-    let mut bytes = io::buffer();
-    let size = io::read_full(STDIN_FILENO, &mut bytes);
-    let mut word = io::buffer();
-    let length = os::arg(1, &mut word);
-    let times = times_of(&word[..length]);
-    let mut room = io::buffer();
-    rewrite(&bytes[..size], times, &mut room);
+fn main(rt: HostRuntime) -> io::Result<()> {
+    let mut bytes = [0; BUFFER];
+    let size = read_full(&mut rt.stdin(), &mut bytes)?;
+    let times = times_told(&rt)?;
+    let mut room = [0; BUFFER];
+    rewrite(&rt, &bytes[..size], times, &mut room)
 }

@@ -7,12 +7,15 @@ ghost use Rattle.feeding.specs.Sessions.{sessions};
 ghost use Rattle.stream.specs.Keeping.{midway_of};
 
 use blocks::Kept;
-use libc::STDOUT_FILENO;
 use rehearsal::LF;
+use std::io::{Read, Write};
 
 mod blocks;
 
-// Room for the answers to any block of `io::buffer`: each of its bytes may end a line, and have the longest answer.
+// So many bytes are read at once.
+const BLOCK: usize = 4096;
+
+// Room for the answers to any block: each of its bytes may end a line, and have the longest answer.
 const ROOM: usize = 851968;
 
 // The lent room, with its length said once: a proof that looks into so long an array takes long.
@@ -31,17 +34,40 @@ struct Turn {
     pub kept: Kept,
 }
 
+// How many bytes were read into the block: none where the read failed.
+fn read_block<R: Read>(from: &mut R, block: &mut [u8]) -> usize
+    ensures { result ≤ length block.new }
+{
+    match from.read(block) {
+        Ok(read) => read,
+        Err(_) => 0,
+    }
+}
+
+// Whether all of the answers could be written.
+fn write_answers<W: Write>(to: &mut W, answers: &[u8]) -> bool {
+    match to.write_all(answers) {
+        Ok(_) => true,
+        Err(_) => false,
+    }
+}
+
 // Reads a block, answers it and writes the answers at once.
-fn take_turn(fd: i32, k: Kept, block: &mut [u8], out: &mut [u8]) -> Turn
+fn take_turn<R: Read, W: Write>(
+    from: &mut R,
+    to: &mut W,
+    k: Kept,
+    block: &mut [u8],
+    out: &mut [u8],
+) -> Turn
     requires { length block.old * longest_answer ≤ length out.old }
     ensures kept_value { midway_of result.kept ≡ fed sessions (midway_of k) (take result.read block.new) }
     ensures adds { Adds (said sessions (midway_of k) (take result.read block.new)) out.old 0 out.new result.place }
 {
-    let got = libc::read(fd, block);
-    let read = io::count(got, block);
+    let read = read_block(from, block);
     let fed = blocks::feed(k, &block[..read], out);
     let place = fed.place;
-    let written = io::write_all(STDOUT_FILENO, &out[..place]);
+    let written = write_answers(to, &out[..place]);
     let kept = fed.kept;
     Turn {
         read,
@@ -60,7 +86,7 @@ fn goes_on(read: usize, written: bool) -> bool {
 }
 
 // The last line may lack its LF: the answer to it, if there is one, ends at the place that is given back.
-fn finish(k: Kept, out: &mut [u8]) -> usize
+fn finish<W: Write>(to: &mut W, k: Kept, out: &mut [u8]) -> usize
     requires { longest_answer ≤ length out.old }
     ensures { Adds (said_last sessions (midway_of k)) out.old 0 out.new result }
 {
@@ -69,21 +95,21 @@ fn finish(k: Kept, out: &mut [u8]) -> usize
     }
     let fed = blocks::feed(k, &[LF], out);
     let place = fed.place;
-    io::write_all(STDOUT_FILENO, &out[..place]);
+    write_answers(to, &out[..place]);
     place
 }
 
-// A whole rehearsal: the schedule from the open file, its answers to standard output. What a file holds no contract can say.
+// A whole rehearsal: the schedule from one end, its answers to the other. What a file holds no contract can say.
 // A proved loop has to end, and nothing says that the input does: no run takes so many turns.
-pub fn run(fd: i32) {
-    let mut bytes = io::buffer();
+pub fn run<R: Read, W: Write>(from: &mut R, to: &mut W) {
+    let mut bytes = [0; BLOCK];
     let block: &mut [u8] = &mut bytes;
     let mut room = empty_room();
     let out: &mut [u8] = &mut room;
     let mut kept = blocks::start();
     let mut turns = u64::MAX;
     while 0 < turns {
-        let turn = take_turn(fd, kept, block, out);
+        let turn = take_turn(from, to, kept, block, out);
         kept = turn.kept;
         if goes_on(turn.read, turn.written) {
             turns -= 1;
@@ -91,5 +117,5 @@ pub fn run(fd: i32) {
             turns = 0;
         }
     }
-    finish(kept, out);
+    finish(to, kept, out);
 }

@@ -6,7 +6,7 @@
 //! an hour or two and is one command from the root of the repository:
 //!
 //! ```sh
-//! cargo run --release --offline --manifest-path tests/second/Cargo.toml --bin schedules -- 1000000 1000000 target/bin/rehearse
+//! cargo run --release --offline --manifest-path tests/second/Cargo.toml --bin schedules -- 1000000 1000000 crates/rehearse/out/rehearse
 //! ```
 
 use std::env;

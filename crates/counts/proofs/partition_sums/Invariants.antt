@@ -1,0 +1,10 @@
+use Rattle.counts.proofs.Counting.{Summing, summing}
+use Prim.Native.Nat.{◌-◌, ◌≤◌}
+use Rattle.tables.proofs.Known.{sized}
+use Rattle.counts.proofs.partition_sums.Given as goal
+
+abbrev pub invariant-loop-i : goal.invariant-loop-i
+invariant-loop-i l = (l.i ≤ l.side) × Summing l.t l.sums l.i
+
+abbrev pub decreases-loop-i : goal.decreases-loop-i
+decreases-loop-i l = l.side - l.i
