@@ -10,12 +10,9 @@ returns-else-are_there c = search (deliver-beyond, pairs, sized, rules)
 
 pub deliver_there-requires-clause-ready : goal.deliver_there-requires-clause-ready
 deliver_there-requires-clause-ready c = (
-  (
-    search rules,
-    search (sender-there, sized, rules),
-    search (receiver-there, sized, rules),
-    search (sender-there, read-four, sized, rules),
-    search (receiver-there, read-four, sized, rules),
-  ),
   search rules,
+  search (sender-there, sized, rules),
+  search (receiver-there, sized, rules),
+  search (sender-there, read-four, sized, rules),
+  search (receiver-there, read-four, sized, rules),
 )

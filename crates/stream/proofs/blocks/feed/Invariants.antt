@@ -1,0 +1,13 @@
+use Rattle.stream.proofs.Feeding.{Feeding, feed-kept, feed-line, feed-room, feed-said, feed-stored, feeding, from-most, from-packed, from-takes, kept-midway, one_less, partition-named, queue-named, session-asked, to-packed, to-sends}
+use Rattle.answers.proofs.Applied.{change-stores}
+use Rattle.feeding.specs.Feed.{midway}
+use Rattle.stream.specs.Keeping.{line_of}
+use Rattle.std.proofs.Common.{◌-◌, length, refl, ◌∙◌, rules}
+use Rattle.losses.proofs.Loses.{tables-left}
+use Rattle.stream.proofs.blocks.feed.Given as goal
+
+abbrev pub invariant-loop-i : goal.invariant-loop-i
+invariant-loop-i l = Feeding (midway (line_of l.initial.line) l.initial.lines (record { «open» = l.initial.running; l.tables = l.initial.tables })) l.block l.initial.out (line_of l.line) l.lines (record { «open» = l.running; l.tables = l.tables }) l.out l.place l.i
+
+abbrev pub decreases-loop-i : goal.decreases-loop-i
+decreases-loop-i l = length l.block - l.i

@@ -1,0 +1,7 @@
+use Rattle.std.proofs.Common.{ℕ, sym}
+use lib.ListN.{length-replicate}
+use Rattle.std.proofs.Common.{rules}
+use Rattle.stream.proofs.empty_room.Goals as goal
+
+pub returns : goal.returns
+returns c = sym (length-replicate {A = ℕ} 851968 0)
