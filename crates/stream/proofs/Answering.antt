@@ -2,7 +2,7 @@
 use Rattle.std.proofs.Common.{◌≡◌, ℕ, ◌+◌, ◌^◌, ◌<◌, ◌≤◌, true, leb, List, ◌∷◌, length, get_or, arith, length-take, get_or-take, le-leb}
 use mir.Val.{Val}
 use denote.Laws.{Is}
-use denote.Struct.Field.{u32-field}
+use denote.Builtin.{u32}
 use Rattle.lists.specs.Lists.{all}
 use Rattle.lists.proofs.Alls.{past_all}
 use Rattle.lists.proofs.Arrays.{array_at, length-of}
@@ -22,7 +22,7 @@ module _ (x : Numbers) (vs : List Val) (v : Is the_row x vs) where
   small : (i : ℕ) → i < length (numbers_of x) → leb (get_or (numbers_of x) i 0) largest_number ≡ true
   small i h =
       let n = length-take x.count x.values in
-      let w = array_at u32-field max_numbers x.values _ v.1.1.1.0 i (omega (arith, few)) 0 in
+      let w = array_at u32 max_numbers x.values _ v.1.1.1.0 i (omega (arith, few)) 0 in
       let e : get_or (numbers_of x) i 0 ≡ get_or x.values i 0 = get_or-take x.count x.values i 0 (omega arith) in
       let b : get_or x.values i 0 < 2 ^ 32 = w.1.1 in
       rw e (le-leb (get_or x.values i 0) largest_number (omega arith))

@@ -7,7 +7,7 @@ use Rattle.losses.proofs.Loses.{tables-left}
 use Rattle.stream.proofs.blocks.feed.Given as goal
 
 abbrev pub invariant-loop-i : goal.invariant-loop-i
-invariant-loop-i l = Feeding (midway (line_of l.initial.line) l.initial.lines (record { «open» = l.initial.running; l.tables = l.initial.tables })) l.block l.initial.out (line_of l.line) l.lines (record { «open» = l.running; l.tables = l.tables }) l.out l.place l.i
+invariant-loop-i l = Feeding (midway (line_of l.initial.line) l.initial.lines (record { «open» = l.initial.running; tables = l.initial.tables })) l.block l.initial.out (line_of l.line) l.lines (record { «open» = l.running; tables = l.tables }) l.out l.place l.i
 
 abbrev pub decreases-loop-i : goal.decreases-loop-i
 decreases-loop-i l = length l.block - l.i
