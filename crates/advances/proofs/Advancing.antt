@@ -9,11 +9,11 @@ use lib.Seq.{get_or-take, length-take-le}
 use Rattle.lists.specs.Lists.{first_at, is_some, keep, map_if, remove_at, without}
 use Rattle.protocol.specs.Advance.{next, next_of, next_to_add, next_to_remove, perform}
 use Rattle.protocol.specs.Answers.{accept, refuse}
-use Rattle.protocol.specs.Bounds.{max_entries, max_messages, max_partitions, max_records}
+use Rattle.protocol.specs.Bounds.{max_entries, max_partitions, max_records}
 use Rattle.protocol.specs.Elements.{adds, is_accepted, is_sent}
 use Rattle.tables.specs.Slots.{no_entry, no_record}
 use Rattle.tables.specs.View.{Sized, Stored, entries_of, no_queue, pack, pack_entries, pack_records, partition_at, queue_at, records_of, view, view_partition}
-use Rattle.answers.specs.Called.{Ready, accepted_with, refused_with, stored}
+use Rattle.answers.specs.Called.{Ready, refused_with, stored}
 use Rattle.answers.specs.declared.Answered.{Answered}
 use Rattle.advances.specs.Opened.{OpenAt, SendsTo}
 use Rattle.lists.proofs.Finds.{found-removed, none_kept}
@@ -21,16 +21,14 @@ use Rattle.lists.proofs.Keep.{is_some-false}
 use Rattle.lists.proofs.Members.{mem-keep, only_one, place-mem}
 use Rattle.lists.proofs.Places.{map_if-at, without_at}
 use Rattle.lists.proofs.Tests.{by_test, eqb_same, no_true}
-use Rattle.protocol.proofs.Numbers.{queue-part}
 use Rattle.protocol.proofs.Room.{entry-room, one_entry, one-record, owner-there, request-room}
-use Rattle.tables.proofs.Packs.{view-pack}
 use Rattle.tables.proofs.Stored.{entries-stored, records-stored}
 use Rattle.answers.proofs.Applied.{entries-change, exchanged-applies, queue-few, records-change, records-exchange}
 use Rattle.answers.specs.declared.changes.Change.{Change}
 use Rattle.answers.specs.Change.{Applies, applied, changes_with, exchanges_with}
 use Rattle.lists.proofs.Backs.{set_back}
-use Rattle.answers.proofs.Ways.{accepts, passes, read_count, read-entries, read-four, read-records, read-sized, read_up, read_view, ready-stored, ready-view, refuses}
-use Rattle.protocol.specs.Tables.{Model, change_records, close_record, enter_name, entry_bears, entry_of, in_stage, message_of, partition, queue, record_bears, send, set_partition, set_stage, take_out_name, turn_record, turned, with_entries, with_records, Partition as Part}
+use Rattle.answers.proofs.Ways.{passes, read_count, read-entries, read-four, read-records, read-sized, read_up, read_view, ready-stored, ready-view, refuses}
+use Rattle.protocol.specs.Tables.{Model, entry_bears, entry_of, in_stage, message_of, partition, record_bears, send, set_stage, turned, Partition as Part}
 use Rattle.protocol.specs.declared.Stage.TheVariants.{Cleared, Held, Ready as ReadyStage, Refused, Sent}
 use Rattle.lists.specs.declared.Found.{Found}
 use Rattle.lists.specs.declared.Found.TheVariants.{At, Nothing}

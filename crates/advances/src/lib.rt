@@ -1,4 +1,6 @@
 // Advance: the next step of one open record (document 01, 'The nine events', 4).
+#![tactic(auto)]
+
 ghost use Rattle.std.specs.Prelude.{◌≡◌, ◌<◌, get_or, [], ◌∷◌};
 ghost use Rattle.lists.specs.Lists.{keep};
 ghost use Rattle.protocol.specs.Advance.{advance, advance_found, next, perform};

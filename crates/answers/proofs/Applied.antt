@@ -10,7 +10,7 @@ use lib.Seq.{get_or-set_other, get_or-set_same}
 use Rattle.lists.specs.Lists.{pick, remove_at}
 use Rattle.lists.proofs.Tests.{by_test, no_true}
 use borrow.Author.Tests.{eqb-false, eqb-true}
-use Rattle.protocol.specs.Bounds.{max_messages, max_partitions, queue_count}
+use Rattle.protocol.specs.Bounds.{max_messages, max_partitions}
 use Rattle.protocol.specs.declared.Message.{Message}
 use Rattle.tables.specs.View.{Sized, Stored, messages_of, no_partition, no_queue, pack, pack_backpointers, pack_entries, pack_partition, pack_queue, pack_records, partition_at, queue_at, view}
 use Rattle.tables.specs.declared.Queue.{Queue}

@@ -1,4 +1,6 @@
 // What a call on the tables by value gives: a refusal, with the tables as they were lent, or an acceptance.
+#![tactic(auto)]
+
 ghost use Rattle.std.specs.Prelude.{◌≡◌, ◌<◌, ltb};
 ghost use Rattle.answers.specs.Called.{acceptance, accepted_with, refused_with};
 

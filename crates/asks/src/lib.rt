@@ -1,5 +1,7 @@
 // Link, create and unlink: an ask opens a ready record (document 01, 'The nine events', 1 to 3).
 // Partition p is read once, by who calls, and handed to each layer as `own`: a layer that read t at p would copy the whole tables.
+#![tactic(auto)]
+
 ghost use Rattle.std.specs.Prelude.{◌∷◌, [], ◌≡◌, ◌<◌, ◌≤◌};
 ghost use Rattle.lists.specs.Lists.{keep, is_none};
 ghost use Rattle.protocol.specs.Answers.{accept};

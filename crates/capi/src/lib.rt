@@ -1,4 +1,6 @@
 // What the partition servers, C programs, call: the check of a lone picture, from its bytes to the number of the refusal.
+#![tactic(auto)]
+
 ghost use Rattle.std.specs.Prelude.{◌≡◌};
 ghost use Rattle.protocol.specs.Elements.{refusal_number};
 ghost use Rattle.picture.specs.Lone.{lone};

@@ -1,4 +1,6 @@
 // Runs the schedules of data/ that its arguments name, each from a fresh start: `rt ci` compares the answers with stdout.
+#![tactic(auto)]
+
 use std::{env, fs, io};
 
 fn rehearse_named(rt: &HostRuntime, name: &str) -> io::Result<()> {

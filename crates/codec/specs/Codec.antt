@@ -1,5 +1,5 @@
 -- How values stand in bytes, the most significant byte first.
-use Rattle.std.specs.Prelude.{Bool, true, false, ◌&&◌, List, [], ◌∷◌, ◌++◌, ℕ, zero, suc, ◌+◌, ◌*◌, ◌/◌, ◌%◌, ltb, eqb, length}
+use Rattle.std.specs.Prelude.{Bool, true, ◌&&◌, List, [], ◌∷◌, ◌++◌, ℕ, zero, suc, ◌+◌, ◌*◌, ◌/◌, ◌%◌, ltb, eqb, length}
 use Rattle.lists.specs.Lists.{pick}
 
 -- what stands at the front of some bytes: nothing, where they end too early; bytes that no value has; or a value, and the bytes

@@ -1,5 +1,7 @@
 // What `S` and `Q` count. No contents of the tables are asked for: of a count that says more than its array has, the array's
 // length counts, which is what the tables then mean.
+#![tactic(auto)]
+
 ghost use Rattle.std.specs.Prelude.{◌≡◌, ◌<◌, ◌≤◌, min};
 ghost use Rattle.protocol.specs.Bounds.{max_messages, max_partitions};
 ghost use Rattle.protocol.specs.Tables.{totals};

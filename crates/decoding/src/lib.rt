@@ -1,4 +1,6 @@
 // One record of each kind, from its start, where its mark stands.
+#![tactic(auto)]
+
 ghost use Rattle.std.specs.Prelude.{true, ◌≡◌, ◌≤◌, length, drop, get_or};
 ghost use Rattle.codec.specs.Codec.{got, bad};
 ghost use Rattle.protocol.specs.declared.Refusal.TheVariants.{FieldOutOfRange};

@@ -2,6 +2,8 @@
 // (cut and crash). The tables are not given back: who holds them stores what is done where they stand. Nor are they read here but
 // at fixed places: who holds them also takes out of them the partition that a command's first number names, the one that its second
 // names, and the queue between the two.
+#![tactic(auto)]
+
 ghost use Rattle.std.specs.Prelude.{true, ◌≡◌, ◌<◌};
 ghost use Rattle.protocol.specs.Ask.{ask};
 ghost use Rattle.protocol.specs.Bounds.{max_partitions};

@@ -9,7 +9,7 @@ use lib.Dec.{ltb}
 use lib.ListN.{get_or, length, take}
 use lib.Seq.{get_or-take, length-take-le}
 use Rattle.lists.specs.Lists.{remove_at}
-use Rattle.protocol.specs.Answers.{Outcome, accept}
+use Rattle.protocol.specs.Answers.{accept}
 use Rattle.protocol.specs.Bounds.{max_messages, max_partitions}
 use Rattle.protocol.specs.Deliver.{deliver, deliver_oldest, receive}
 use Rattle.protocol.specs.Tables.{Model, is_partition, queue}
@@ -22,9 +22,7 @@ use Rattle.tables.specs.declared.Partition.{Partition}
 use Rattle.tables.specs.declared.Queue.{Queue}
 use Rattle.tables.specs.declared.Tables.{Tables}
 use Rattle.answers.specs.Called.{Ready, refused_with, stored}
-use Rattle.answers.specs.Change.{applied}
 use Rattle.answers.specs.declared.Answered.{Answered}
-use Rattle.answers.specs.declared.changes.Change.{Change}
 use Rattle.deliveries.specs.Taken.{Received, Waits, taken_from}
 use Rattle.lists.proofs.Tests.{and_left, and_right, both_true}
 use Rattle.lists.proofs.Tidies.{tidy-count}

@@ -1,4 +1,6 @@
 // Deliver: the oldest message from a sender to a receiver (document 01, 'The nine events', 5).
+#![tactic(auto)]
+
 ghost use Rattle.std.specs.Prelude.{◌&&◌, true, ◌≡◌, ◌*◌, ◌+◌, ◌<◌, ◌≤◌, ltb, length};
 ghost use Rattle.lists.specs.Lists.{keep, map_if, without};
 ghost use Rattle.protocol.specs.Bounds.{max_backpointers, max_partitions, max_records};

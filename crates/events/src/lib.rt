@@ -1,5 +1,7 @@
 // The nine events by document 01's names, on the tables by value. Each answers any tables and any numbers exactly as its definition
 // does, and gives back the tables as they were where it refuses.
+#![tactic(auto)]
+
 ghost use Rattle.std.specs.Prelude.{◌≡◌};
 ghost use Rattle.protocol.specs.Events.{advancing, crashing, creating, cutting, delivering, linking, opening, recovering, unlinking};
 ghost use Rattle.answers.specs.Called.{called};

@@ -1,4 +1,6 @@
 // Cut, crash, recover and open (document 01, 'The nine events', 6 to 9).
+#![tactic(auto)]
+
 ghost use Rattle.std.specs.Prelude.{false, ◌&&◌, ◌≡◌, ◌<◌, eqb, leb};
 ghost use Rattle.protocol.specs.Bounds.{max_partitions};
 ghost use Rattle.protocol.specs.Faults.{crash, cut, recover};

@@ -1,4 +1,6 @@
 // Reads a line by places, from its first byte to its last, with no copy of it.
+#![tactic(auto)]
+
 ghost use Rattle.std.specs.Prelude.{true, [], ◌∷◌, ◌≡◌, ◌-◌, ◌<◌, ◌≤◌, length, drop};
 ghost use Rattle.lists.specs.Lists.{is_none};
 ghost use Rattle.rehearsal.specs.Line.{base, space, up_to, behind, digit_nine, digit_zero, is_digit, starts_well, row_for, asked, not_understood, command_of};

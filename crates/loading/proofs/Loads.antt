@@ -8,7 +8,7 @@ use borrow.Author.Tests.{eq-eqb, ne_eqb}
 use Rattle.protocol.specs.Answers.{check}
 use Rattle.protocol.specs.Elements.{is_accepted, refusal_number}
 use Rattle.protocol.specs.Order.{in_order}
-use Rattle.protocol.specs.Tables.{is_partition, partition, partition_count, set_partition, Partition as Part}
+use Rattle.protocol.specs.Tables.{is_partition, partition_count, set_partition, Partition as Part}
 use Rattle.protocol.specs.declared.Refusal.{Refusal}
 use Rattle.protocol.specs.declared.Refusal.TheVariants.{FieldOutOfRange, IsUp, OutOfOrder, OutOfRange}
 use Rattle.tables.specs.View.{Sized, pack_partition, partition_at, shaped, view, view_partition}

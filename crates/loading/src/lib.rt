@@ -1,5 +1,7 @@
 // A picture put into a partition that is down, on any tables and any bytes, exactly as document 01's definition says. `load`, at
 // the end, is for others; what stands before it is its own.
+#![tactic(auto)]
+
 ghost use Rattle.std.specs.Prelude.{◌&&◌, ◌≡◌, ◌<◌, eqb};
 ghost use Rattle.protocol.specs.Bounds.{max_partitions};
 ghost use Rattle.protocol.specs.Tables.{set_partition};

@@ -1,4 +1,6 @@
 // What a cut or a crash loses: records that relapse to ready, and queues that empty (document 01, 'The nine events', 6 and 7).
+#![tactic(auto)]
+
 ghost use Rattle.std.specs.Prelude.{◌&&◌, not, map, ◌≡◌, ◌≤◌, eqb};
 ghost use Rattle.lists.specs.Lists.{map_from, map_if, pad, pick};
 ghost use Rattle.protocol.specs.Bounds.{max_partitions, max_records};

@@ -1,5 +1,7 @@
 // O6 and the queues' half of O7: what is asked of the queue from one partition to another, and of the records that its messages
 // are of.
+#![tactic(auto)]
+
 ghost use Rattle.std.specs.Prelude.{◌≤◌, ◌≡◌, length};
 ghost use Rattle.lists.specs.Lists.{all, any, keep};
 ghost use Rattle.protocol.specs.Bounds.{max_records, max_messages};

@@ -1,4 +1,6 @@
 // The numbers of refusals and replies, as document 01, 'Numbers returned', has them, and what is asked of them.
+#![tactic(auto)]
+
 ghost use Rattle.std.specs.Prelude.{◌≡◌};
 ghost use Rattle.protocol.specs.Elements.{is_accepted, is_one, is_other, reason_number, refusal_number, reply_number};
 

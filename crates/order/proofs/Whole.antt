@@ -8,10 +8,9 @@ use lib.Dec.{eqb, leb, ltb}
 use lib.ListN.{get_or, length}
 use lib.Seq.{length-take-le}
 use borrow.Author.Tests.{eq-eqb, eqb-true, le-leb, leb-true, ltb-false, ltb-true}
-use Rattle.lists.specs.Lists.{all, any, below, is_none, keep, one, pick}
+use Rattle.lists.specs.Lists.{all, any, below, is_none, keep, pick}
 use Rattle.protocol.specs.Bounds.{largest_number, max_backpointers, max_entries, max_messages, max_partitions, max_records, queue_count}
 use Rattle.protocol.specs.Elements.{body_fits, is_request, is_sent}
-use Rattle.protocol.specs.Example.{answered}
 use Rattle.protocol.specs.Order.{o1, o2, o3, o4, o5, o6, o7, all_ready, backpointers_apart, each_pair, entries_apart, given_by, giver, has_one_message, has_record, holder, in_order, in_range, is_answer_to, is_request_of, numbers_given, partition_in_range, record_in_range, records_apart, room_kept, sent_as}
 use Rattle.protocol.specs.declared.Backpointer.{Backpointer}
 use Rattle.protocol.specs.declared.Body.{Body}
@@ -29,7 +28,7 @@ use Rattle.lists.proofs.Members.{all-get, all_true}
 use Rattle.lists.proofs.Tests.{◌also◌, and_left, and_right, below_at, below_true, both_true, by_test, done, eqb_same, every-at, every_of, or_else, or_right}
 use Rattle.tables.proofs.Views.{past-view, ranged}
 use Rattle.partitions.proofs.Laws.{fine-shaped}
-use Rattle.protocol.specs.Tables.{Partition as Part, Model, partition, queue, partition_count, is_partition, claimed, no_partition as no_part}
+use Rattle.protocol.specs.Tables.{Partition as Part, Model, partition, queue, partition_count, claimed, no_partition as no_part}
 
 -- ---- one partition
 

@@ -1,4 +1,6 @@
 // Whether the tables are in order, O1 to O7 of document 01, whatever they hold.
+#![tactic(auto)]
+
 ghost use Rattle.std.specs.Prelude.{◌&&◌, ◌≡◌};
 ghost use Rattle.protocol.specs.Order.{in_order};
 ghost use Rattle.tables.specs.View.{view, shaped};

@@ -1,5 +1,7 @@
 // O1 to O5 and the records' half of O7: what is asked of one partition, among so many. Each list is handed on as seldom as can be,
 // and a list of none only to be seen that its slots are free: it is a kilobyte, and goes by value.
+#![tactic(auto)]
+
 ghost use Rattle.std.specs.Prelude.{◌≤◌, ◌≡◌};
 ghost use Rattle.lists.specs.Lists.{all, apart};
 ghost use Rattle.protocol.specs.Bounds.{max_partitions, max_entries, max_backpointers, max_records};

@@ -1,5 +1,5 @@
 -- What the functions that read answer, by the definitions of `Rows` and `Picture`.
-use Rattle.std.specs.Prelude.{◌≡◌, Bool, true, false, List, [], ℕ, ◌+◌, ◌*◌, ◌≤◌, length, take, drop}
+use Rattle.std.specs.Prelude.{◌≡◌, Bool, List, [], ℕ, ◌+◌, ◌*◌, ◌≤◌, length, take, drop}
 use Rattle.lists.specs.Lists.{pick, pad}
 use Rattle.codec.specs.Over.{over}
 use Rattle.protocol.specs.declared.Refusal.{Refusal}

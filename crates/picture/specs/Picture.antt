@@ -1,5 +1,5 @@
 -- The picture of one partition's stable tables: its kinds of record, written and read (document 01, 'The picture').
-use Rattle.std.specs.Prelude.{Bool, true, false, ◌&&◌, ◌||◌, List, [], ◌∷◌, ◌++◌, map, ℕ, eqb, leb, ltb, take}
+use Rattle.std.specs.Prelude.{Bool, false, ◌&&◌, ◌||◌, List, [], ◌∷◌, ◌++◌, map, ℕ, eqb, leb, ltb, take}
 use Rattle.lists.specs.Lists.{pick, every, pad}
 use Rattle.names.specs.Names.{name_bytes, same_bytes}
 use Rattle.names.specs.declared.Name.{Name}
@@ -16,7 +16,7 @@ use Rattle.protocol.specs.Elements.{kind_number, is_ready}
 use Rattle.protocol.specs.Tables.{Partition, Model, partition_count, partition, in_stage}
 use Rattle.partitions.specs.Clauses.{entry_among, backpointer_among, record_among, given}
 use Rattle.picture.specs.declared.Head.{Head}
-use Rattle.picture.specs.Rows.{Row, put_row, Read, fail, more, next, one, Section, Table, close, ◌before◌, Contents, put_table, read_table, counted, fitting}
+use Rattle.picture.specs.Rows.{Row, put_row, Read, fail, more, next, one, Section, Table, close, ◌before◌, Contents, put_table, read_table, counted}
 
 -- ---- the letters of the marks
 

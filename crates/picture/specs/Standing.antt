@@ -1,6 +1,6 @@
 -- What a reader that stands at a place of a lent picture hands out there, and where it stands next (document 01, 'The picture':
 -- "hands out one record at a time, staying at the close or a refusal").
-use Rattle.std.specs.Prelude.{Bool, ◌&&◌, List, [], ℕ, ◌+◌, eqb, leb, ltb, length, take, drop}
+use Rattle.std.specs.Prelude.{Bool, ◌&&◌, List, ℕ, ◌+◌, eqb, leb, ltb, length, take, drop}
 use Rattle.lists.specs.Lists.{pick}
 use Rattle.protocol.specs.declared.Backpointer.{Backpointer}
 use Rattle.protocol.specs.declared.Entry.{Entry}

@@ -5,7 +5,7 @@ use Rattle.codec.specs.Over.{over}
 use Rattle.protocol.specs.declared.Reply.TheVariants.{None}
 use Rattle.protocol.specs.declared.Refusal.{Refusal}
 use Rattle.protocol.specs.declared.Refusal.TheVariants.{Accepted, OutOfRange, IsUp, OutOfOrder, FieldOutOfRange, RoomTooShort}
-use Rattle.protocol.specs.Tables.{Partition, Model, partition_count, is_partition, partition, set_partition}
+use Rattle.protocol.specs.Tables.{Model, partition_count, is_partition, partition, set_partition}
 use Rattle.protocol.specs.Order.{in_order}
 use Rattle.protocol.specs.Answers.{Outcome, accept, refuse, check}
 use Rattle.picture.specs.Rows.{Read, fail, more}

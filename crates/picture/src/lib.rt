@@ -1,5 +1,7 @@
 // The picture of one partition's stable tables (document 01, 'The picture'): its marks and sizes, and what is made of them. The
 // definitions and what is proved of them stand in specs/ and proofs/; crates decoding, reading, standing and writing have the functions.
+#![tactic(auto)]
+
 ghost use Rattle.picture.specs.Claims.{ReadsBack, NoOtherBytes, Largest, LoadsBack, LoadsAfterCrash};
 
 use names::Name;

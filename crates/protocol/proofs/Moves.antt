@@ -5,7 +5,6 @@ use mathlib.Core.Path.{◌≡◌}
 use Prim.Native.Nat.{◌<◌, ◌≤◌, ℕ}
 use lib.ListN.{length}
 use Rattle.protocol.specs.Elements.{Backpointer, Entry}
-use Rattle.protocol.specs.Order.{giver}
 use Rattle.protocol.specs.Tables.{Model, partition}
 use Rattle.protocol.proofs.Content.{Content, Fine, fine-else, letters}
 use Rattle.protocol.proofs.Look.{Shape}

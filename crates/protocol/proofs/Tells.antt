@@ -20,7 +20,6 @@ use Rattle.lists.proofs.Keep.{is_none-true, kept}
 use Rattle.lists.proofs.Members.{all-get, keep-mem, keep-nil, keep_same, mem-keep, seen-mem}
 use Rattle.lists.proofs.Tests.{and_left, and_right, below_at, bool_same, both_true, by_test, every-at, no_true, not-true, or_else, or_left, or_right}
 use Rattle.names.proofs.Laws.{name-true}
-use Rattle.protocol.proofs.Changes.{sent}
 use Rattle.protocol.proofs.Content.{AtRest, Blank, Content, Fine, letters, message_at, record_at, unready}
 use Rattle.protocol.proofs.Look.{Shape, four, place-true, stands-true}
 use Rattle.protocol.proofs.Neat.{Neat}

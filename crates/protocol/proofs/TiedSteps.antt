@@ -3,7 +3,7 @@ use mathlib.Core.Bool.{Bool, ◌&&◌, false, not, true}
 use mathlib.Core.List.{List, [], ◌∷◌, head-eq_of_cons-eq}
 use mathlib.Core.Path.{◌∙◌, ◌≡◌, ap, refl, sym}
 use Prim.Native.Nat.{◌≤◌, ℕ}
-use lib.Dec.{T, eqb}
+use lib.Dec.{eqb}
 use lib.ListN.{length}
 use borrow.Author.Tests.{eq-eqb}
 use Rattle.lists.specs.Lists.{is_some, keep, one}

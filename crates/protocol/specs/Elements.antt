@@ -1,5 +1,5 @@
 -- The elements of the tables and of the answers: their enums' numbers in document 01, and tests of them.
-use Rattle.std.specs.Prelude.{Bool, true, false, not, ◌&&◌, ℕ, eqb}
+use Rattle.std.specs.Prelude.{Bool, true, false, not, ℕ, eqb}
 pub use Rattle.names.specs.declared.Name.{Name}
 pub use Rattle.protocol.specs.declared.Kind.{Kind}
 pub use Rattle.protocol.specs.declared.Kind.TheVariants.{Link, Create, Unlink}

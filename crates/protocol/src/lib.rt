@@ -1,5 +1,7 @@
 // The service's elements, as document 01, 'The tables' and 'Numbers returned', names them, and what is proved of the
 // definitions in specs/: the contract of `claims` states it, and the function does nothing.
+#![tactic(auto)]
+
 ghost use Rattle.protocol.specs.Claims.{OrderKept, Safety, Settles, Settling, RefusalsKeep, OneOutcome, FailuresLast, Cases, Room};
 
 use names::Name;

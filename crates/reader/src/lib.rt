@@ -1,4 +1,6 @@
 // A reader that stands on a lent picture and hands out one record at a time, staying at the close or a refusal.
+#![tactic(auto)]
+
 ghost use Rattle.std.specs.Prelude.{◌≡◌};
 ghost use Rattle.picture.specs.Standing.{handed_at};
 ghost use Rattle.reader.specs.Walk.{WalkReads};

@@ -10,7 +10,6 @@ use Rattle.protocol.specs.Elements.{is_accepted}
 use Rattle.protocol.specs.declared.Refusal.{Refusal}
 use Rattle.protocol.specs.declared.Refusal.TheVariants.{Accepted, FieldOutOfRange}
 use Rattle.picture.specs.Answers.{Answered, Gathered, told}
-use Rattle.picture.specs.Picture.{read}
 use Rattle.picture.specs.Rows.{Read, Row, body, fail, many, marked, more}
 use Rattle.codec.proofs.Sizes.{Short}
 use Rattle.decoding.proofs.Decodes.{told-fail, told_more}

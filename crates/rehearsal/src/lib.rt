@@ -1,5 +1,7 @@
 // The rehearsal (document 01, 'The rehearsal program'): what a line asks, and the text that answers it, in types and definitions.
 // What is proved of the definitions in specs/ stands in the contract of `claims`, and the function does nothing.
+#![tactic(auto)]
+
 ghost use Rattle.rehearsal.specs.Claims.{Worked, OneReading, ReadBack, ShortText, OneText};
 
 use names::Name;

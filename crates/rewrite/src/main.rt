@@ -2,6 +2,8 @@
 // into fresh tables, and written from them as many times as the argument says. Standard output has what the last time left, the same
 // bytes. One time shows that; many are for measuring one (bench/). Where something is refused, its number stands there instead: so
 // is a back-pointer of another partition's (16), since in fresh tables the others have given no number.
+#![tactic(auto)]
+
 ghost use Rattle.std.specs.Prelude.{◌≡◌, ◌≤◌, IfOk, length};
 ghost use Rattle.loading.specs.Loaded.{loaded};
 ghost use Rattle.writing.specs.Written.{after};

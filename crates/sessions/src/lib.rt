@@ -1,4 +1,6 @@
 // What a command answers, and the session after it: one function for each command, by the public events and by settle.
+#![tactic(auto)]
+
 ghost use Rattle.std.specs.Prelude.{◌≡◌};
 ghost use Rattle.rehearsal.specs.Answers.{stored};
 ghost use Rattle.rehearsal.specs.declared.Verb.TheVariants.{Advance, Crash, Create, Cut, Deliver, Link, Recover, Settle, Square, Totals, Unlink};

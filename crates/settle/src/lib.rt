@@ -1,5 +1,7 @@
 // Settle n: settling steps on the tables by value, each the first accepted one, and the tally that the caller lends
 // (document 01, 'Settle n').
+#![tactic(auto)]
+
 ghost use Rattle.std.specs.Prelude.{◌≡◌};
 ghost use Rattle.protocol.specs.Settle.{zero_tally};
 ghost use Rattle.settle.specs.Settled.{reported, settled};

@@ -1,4 +1,6 @@
 // The shape of the tables: counts within bounds, unused slots zero.
+#![tactic(auto)]
+
 ghost use Rattle.std.specs.Prelude.{◌≡◌};
 ghost use Rattle.tables.specs.View.{shaped_entries, shaped_backpointers, shaped_records, shaped_queue, shaped_partition, absent};
 

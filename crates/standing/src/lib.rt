@@ -1,4 +1,6 @@
 // What stands at a place of a picture, and where a reader stands next: the work of the reader on a lent picture.
+#![tactic(auto)]
+
 ghost use Rattle.std.specs.Prelude.{◌≡◌, ◌≤◌, length, drop};
 ghost use Rattle.protocol.specs.declared.Refusal.TheVariants.{FieldOutOfRange};
 ghost use Rattle.protocol.specs.Bounds.{max_entries, max_backpointers, max_records};

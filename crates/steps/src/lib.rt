@@ -1,4 +1,6 @@
 // The first accepted step: advances by partition, then record order; then deliveries by sender, then receiver.
+#![tactic(auto)]
+
 ghost use Rattle.std.specs.Prelude.{[], ◌∷◌, ◌≡◌, ◌<◌};
 ghost use Rattle.protocol.specs.Answers.{accepted};
 ghost use Rattle.protocol.specs.Bounds.{max_partitions};

@@ -11,7 +11,7 @@ use Rattle.sessions.specs.declared.Session.{Session}
 use Rattle.deeds.specs.Deeds.{Does}
 use Rattle.deeds.specs.declared.Deed.{Deed}
 use Rattle.deeds.specs.declared.Way.TheVariants.{Changes}
-use Rattle.answers.specs.Change.{Sends, Takes, changed, from_other, taken_if, taken_queues, to_other}
+use Rattle.answers.specs.Change.{Sends, Takes, from_other, taken_if, taken_queues, to_other}
 use Rattle.protocol.specs.Bounds.{max_messages, max_partitions}
 use Rattle.tables.specs.View.{messages_of, no_queue, pack_queue, partition_at, queue_at}
 use Rattle.tables.specs.declared.Queue.{Queue}

@@ -1,5 +1,7 @@
 // A rehearsal from a file to standard output (document 01, 'The rehearsal program'), of which the programs are made.
 // `blocks` answers the bytes of a block; here blocks are read and their answers written, and that is all.
+#![tactic(auto)]
+
 ghost use Rattle.std.specs.Prelude.{◌≡◌, ◌*◌, ◌≤◌, length, take};
 ghost use Rattle.rehearsal.specs.Text.{Adds};
 ghost use Rattle.feeding.specs.Feed.{block_bytes, fed, longest_answer, said, said_last};

@@ -7,7 +7,7 @@ use mir.Val.{Val}
 use denote.Laws.{Is}
 use borrow.Author.Rules.{rules}
 use Rattle.lists.proofs.Arrays.{length-of, array_at}
-use Rattle.protocol.specs.Bounds.{max_partitions, max_entries, max_backpointers, max_records, max_messages, queue_count, largest_number}
+use Rattle.protocol.specs.Bounds.{max_partitions, max_entries, max_backpointers, max_records, max_messages, queue_count}
 use Rattle.tables.specs.View.{partition_at, no_partition, queue_at, no_queue, SizedPartition, Sized}
 use Rattle.tables.specs.declared.Entries.{Entries}
 use Rattle.tables.specs.declared.Backpointers.{Backpointers}

@@ -1,13 +1,12 @@
 -- What tables in their stored form hold at each place, and what they are after a store.
-use mathlib.Core.Bool.{Bool}
 use mathlib.Core.List.{List, map}
-use mathlib.Core.Path.{◌∙◌, ◌≡◌, ap, ap₂, refl, sym}
+use mathlib.Core.Path.{◌∙◌, ◌≡◌, ap, ap₂, sym}
 use Prim.Native.Nat.{◌*◌, ◌+◌, ◌<◌, ℕ}
 use lib.ListN.{get_or, length, length-map, length-set, set}
 use lib.Seq.{get_or-take}
 use Rattle.lists.specs.Lists.{pad}
 use Rattle.protocol.specs.Bounds.{max_backpointers, max_entries, max_messages, max_partitions, max_records}
-use Rattle.protocol.specs.Tables.{Model, partition, set_partition, set_queue, set_up, with_backpointers, with_entries, with_last, with_records, no_partition as no_part, Partition as Part}
+use Rattle.protocol.specs.Tables.{Model, partition, set_partition, set_queue, no_partition as no_part, Partition as Part}
 use Rattle.protocol.specs.declared.Backpointer.{Backpointer}
 use Rattle.protocol.specs.declared.Entry.{Entry}
 use Rattle.protocol.specs.declared.Message.{Message}

@@ -1,4 +1,6 @@
 // The tables by value, with document 01's bounds: lists in arrays, each with its count. `specs/View.antt` says what they mean.
+#![tactic(auto)]
+
 use protocol::{Backpointer, Entry, Message, Record};
 
 pub mod elements;

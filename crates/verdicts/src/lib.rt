@@ -1,4 +1,6 @@
 // What a request is answered at the object's partition, by the back-pointers there (document 01, 'The nine events', 5).
+#![tactic(auto)]
+
 ghost use Rattle.std.specs.Prelude.{◌≡◌, ◌≤◌, eqb, leb, length};
 ghost use Rattle.lists.specs.Lists.{is_none, keep, pick};
 ghost use Rattle.protocol.specs.Bounds.{max_backpointers};

@@ -9,7 +9,6 @@ use lib.ListN.{get_or, length, length-append, take}
 use lib.Seq.{take-suc}
 use Rattle.codec.specs.Over.{over}
 use Rattle.picture.specs.Answers.{Put, PutAll}
-use Rattle.picture.specs.Picture.{put}
 use Rattle.picture.specs.Rows.{Row, next, put_row, put_rows}
 use Rattle.codec.proofs.Puts.{laid, over_none}
 use Rattle.picture.proofs.Rounds.{rows_more}

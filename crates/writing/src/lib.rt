@@ -1,4 +1,6 @@
 // A partition's picture written into lent room, on any tables and any room, exactly as document 01's definition says.
+#![tactic(auto)]
+
 ghost use Rattle.std.specs.Prelude.{◌≡◌};
 ghost use Rattle.writing.specs.Written.{after, written_from};
 

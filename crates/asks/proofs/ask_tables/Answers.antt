@@ -1,5 +1,5 @@
 use Rattle.asks.proofs.Asks.{asktables, tables-claimed, tables-open}
-use Rattle.answers.proofs.Applied.{kept-applies, kept-as-is, refused-applies}
+use Rattle.answers.proofs.Applied.{kept-as-is, refused-applies}
 use Rattle.answers.proofs.Ways.{read-entries, read-records, ready-stored}
 use Rattle.tables.proofs.Known.{sized}
 use Rattle.std.proofs.Common.{rules}

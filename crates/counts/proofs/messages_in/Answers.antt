@@ -1,6 +1,4 @@
-use Rattle.counts.proofs.Counting.{Mailing, mailing}
-use Rattle.protocol.specs.Bounds.{max_messages, queue_count}
-use Prim.Native.Nat.{◌*◌, ◌-◌, ◌≤◌}
+use Rattle.counts.proofs.Counting.{mailing}
 use Rattle.tables.proofs.Known.{sized}
 use Rattle.std.proofs.Common.{rules}
 use Rattle.counts.proofs.messages_in.Goals as goal

@@ -1,7 +1,6 @@
-use Rattle.counts.proofs.Counting.{Mailing, mailing}
+use Rattle.counts.proofs.Counting.{Mailing}
 use Rattle.protocol.specs.Bounds.{max_messages, queue_count}
 use Prim.Native.Nat.{◌*◌, ◌-◌, ◌≤◌}
-use Rattle.tables.proofs.Known.{sized}
 use Rattle.counts.proofs.messages_in.Given as goal
 
 abbrev pub invariant-loop-i : goal.invariant-loop-i

@@ -1,5 +1,4 @@
-use Rattle.counts.proofs.Counting.{Summing, summing}
-use Prim.Native.Nat.{◌-◌, ◌≤◌}
+use Rattle.counts.proofs.Counting.{summing}
 use Rattle.tables.proofs.Known.{sized}
 use Rattle.std.proofs.Common.{rules}
 use Rattle.counts.proofs.partition_sums.Goals as goal

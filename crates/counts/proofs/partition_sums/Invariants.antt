@@ -1,6 +1,5 @@
-use Rattle.counts.proofs.Counting.{Summing, summing}
+use Rattle.counts.proofs.Counting.{Summing}
 use Prim.Native.Nat.{◌-◌, ◌≤◌}
-use Rattle.tables.proofs.Known.{sized}
 use Rattle.counts.proofs.partition_sums.Given as goal
 
 abbrev pub invariant-loop-i : goal.invariant-loop-i

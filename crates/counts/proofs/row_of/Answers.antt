@@ -1,5 +1,4 @@
 use Rattle.counts.specs.Counts.{lengths_from}
-use Rattle.std.proofs.Common.{rules}
 use Rattle.counts.proofs.row_of.Goals as goal
 
 pub returns : goal.returns

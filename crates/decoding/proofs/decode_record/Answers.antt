@@ -1,5 +1,5 @@
 use Rattle.decoding.proofs.Decodes.{decodes}
-use Rattle.decoding.proofs.Fields.{short-lg, record-none, kind-known}
+use Rattle.decoding.proofs.Fields.{short-lg, record-none}
 use Rattle.std.proofs.Common.{rules}
 use Rattle.decoding.proofs.decode_record.Goals as goal
 

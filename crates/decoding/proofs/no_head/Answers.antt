@@ -1,6 +1,5 @@
 use mathlib.Core.Path.{refl}
 use Rattle.picture.specs.Answers.{zero_head}
-use Rattle.std.proofs.Common.{rules}
 use Rattle.decoding.proofs.no_head.Goals as goal
 
 pub returns : goal.returns

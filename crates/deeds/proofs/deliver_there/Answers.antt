@@ -1,4 +1,4 @@
-use Rattle.deeds.proofs.Doing.{deliver-done, taken_own, taken-waiting}
+use Rattle.deeds.proofs.Doing.{deliver-done}
 use Rattle.tables.proofs.Known.{sized}
 use Rattle.std.proofs.Common.{rules}
 use Rattle.deeds.proofs.deliver_there.Goals as goal

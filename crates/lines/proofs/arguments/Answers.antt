@@ -1,5 +1,4 @@
-use Rattle.lines.proofs.Commands.{Gathering, gathering}
-use Prim.Native.Nat.{◌-◌}
+use Rattle.lines.proofs.Commands.{gathering}
 use Rattle.std.proofs.Common.{rules}
 use Rattle.lines.proofs.arguments.Goals as goal
 

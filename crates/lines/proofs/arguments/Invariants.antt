@@ -1,4 +1,4 @@
-use Rattle.lines.proofs.Commands.{Gathering, gathering}
+use Rattle.lines.proofs.Commands.{Gathering}
 use Prim.Native.Nat.{◌-◌}
 use Rattle.lines.proofs.arguments.Given as goal
 

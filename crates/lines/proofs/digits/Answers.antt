@@ -1,7 +1,4 @@
-use Rattle.lines.proofs.Values.{Valuing, valuing}
-use Rattle.lines.specs.Places.{digits_at}
-use lib.ListN.{length}
-use Prim.Native.Nat.{◌-◌}
+use Rattle.lines.proofs.Values.{valuing}
 use Rattle.std.proofs.Common.{rules}
 use Rattle.lines.proofs.digits.Goals as goal
 

@@ -1,4 +1,4 @@
-use Rattle.lines.proofs.Values.{Valuing, valuing}
+use Rattle.lines.proofs.Values.{Valuing}
 use Rattle.lines.specs.Places.{digits_at}
 use lib.ListN.{length}
 use Prim.Native.Nat.{◌-◌}

@@ -1,7 +1,4 @@
-use Rattle.lines.proofs.Spellings.{Naming, naming}
-use Rattle.lines.specs.Places.{name_at}
-use lib.ListN.{length}
-use Prim.Native.Nat.{◌-◌}
+use Rattle.lines.proofs.Spellings.{naming}
 use Rattle.std.proofs.Common.{rules}
 use Rattle.lines.proofs.name_at.Goals as goal
 

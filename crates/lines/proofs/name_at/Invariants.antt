@@ -1,4 +1,4 @@
-use Rattle.lines.proofs.Spellings.{Naming, naming}
+use Rattle.lines.proofs.Spellings.{Naming}
 use Rattle.lines.specs.Places.{name_at}
 use lib.ListN.{length}
 use Prim.Native.Nat.{◌-◌}

@@ -1,6 +1,5 @@
 use Rattle.lists.specs.Lists.{pad}
 use Rattle.rehearsal.specs.Line.{not_understood}
-use Rattle.std.proofs.Common.{rules}
 use Rattle.lines.proofs.not_understood.Goals as goal
 
 pub returns : goal.returns

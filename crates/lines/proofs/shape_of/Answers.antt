@@ -1,5 +1,4 @@
 use Rattle.lines.proofs.Shapes.{by-letter, by-none, shaped}
-use Rattle.lines.proofs.shape_of.Lts as lts
 use Rattle.std.proofs.Common.{rules}
 use Rattle.lines.proofs.shape_of.Goals as goal
 

@@ -1,8 +1,5 @@
-use Prim.Native.Nat.{◌-◌, ◌≤◌}
-use Rattle.protocol.specs.Bounds.{max_partitions}
 use Rattle.tables.proofs.Known.{sized}
-use Rattle.losses.proofs.Loses.{partitions-lost, stored_after}
-use Rattle.lists.proofs.Mapped.{Mapping}
+use Rattle.losses.proofs.Loses.{partitions-lost}
 use Rattle.answers.proofs.Ways.{read-records, ready-count}
 use Rattle.std.proofs.Common.{rules}
 use Rattle.losses.proofs.partitions_after.Goals as goal

@@ -1,9 +1,7 @@
 use Prim.Native.Nat.{◌-◌, ◌≤◌}
 use Rattle.protocol.specs.Bounds.{max_partitions}
-use Rattle.tables.proofs.Known.{sized}
-use Rattle.losses.proofs.Loses.{partitions-lost, stored_after}
+use Rattle.losses.proofs.Loses.{stored_after}
 use Rattle.lists.proofs.Mapped.{Mapping}
-use Rattle.answers.proofs.Ways.{read-records, ready-count}
 use Rattle.losses.proofs.partitions_after.Given as goal
 
 abbrev pub invariant-loop-i : goal.invariant-loop-i

@@ -1,8 +1,4 @@
-use Prim.Native.Nat.{◌-◌, ◌≤◌}
-use Rattle.protocol.specs.Bounds.{queue_count}
 use Rattle.tables.proofs.Known.{sized}
-use Rattle.lists.proofs.Mapped.{Mapping}
-use Rattle.losses.specs.Lost.{queue_after}
 use Rattle.losses.proofs.Loses.{queue-empties, queue-stays, queues-lost}
 use Rattle.std.proofs.Common.{rules}
 use Rattle.losses.proofs.queues_after.Goals as goal

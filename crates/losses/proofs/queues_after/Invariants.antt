@@ -1,9 +1,7 @@
 use Prim.Native.Nat.{◌-◌, ◌≤◌}
 use Rattle.protocol.specs.Bounds.{queue_count}
-use Rattle.tables.proofs.Known.{sized}
 use Rattle.lists.proofs.Mapped.{Mapping}
 use Rattle.losses.specs.Lost.{queue_after}
-use Rattle.losses.proofs.Loses.{queue-empties, queue-stays, queues-lost}
 use Rattle.losses.proofs.queues_after.Given as goal
 
 abbrev pub invariant-loop-i : goal.invariant-loop-i

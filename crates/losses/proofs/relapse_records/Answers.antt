@@ -1,7 +1,5 @@
-use Prim.Native.Nat.{◌-◌, ◌≤◌}
 use Rattle.tables.proofs.Known.{records-length}
-use Rattle.lists.proofs.Mapped.{Mapping}
-use Rattle.losses.proofs.Loses.{leaves, records-lost}
+use Rattle.losses.proofs.Loses.{records-lost}
 use Rattle.std.proofs.Common.{rules}
 use Rattle.losses.proofs.relapse_records.Goals as goal
 

@@ -1,7 +1,6 @@
 use Prim.Native.Nat.{◌-◌, ◌≤◌}
-use Rattle.tables.proofs.Known.{records-length}
 use Rattle.lists.proofs.Mapped.{Mapping}
-use Rattle.losses.proofs.Loses.{leaves, records-lost}
+use Rattle.losses.proofs.Loses.{leaves}
 use Rattle.losses.proofs.relapse_records.Given as goal
 
 abbrev pub invariant-loop-i : goal.invariant-loop-i

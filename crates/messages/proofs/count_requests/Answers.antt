@@ -1,6 +1,4 @@
-use Prim.Native.Nat.{◌-◌, ◌≤◌}
-use Rattle.protocol.specs.Order.{is_request_of}
-use Rattle.lists.proofs.Loops.{Counting, countings}
+use Rattle.lists.proofs.Loops.{countings}
 use Rattle.tables.proofs.Known.{messages-fit}
 use Rattle.std.proofs.Common.{rules}
 use Rattle.messages.proofs.count_requests.Goals as goal

@@ -1,7 +1,6 @@
 use Prim.Native.Nat.{◌-◌, ◌≤◌}
 use Rattle.protocol.specs.Order.{is_request_of}
-use Rattle.lists.proofs.Loops.{Counting, countings}
-use Rattle.tables.proofs.Known.{messages-fit}
+use Rattle.lists.proofs.Loops.{Counting}
 use Rattle.messages.proofs.count_requests.Given as goal
 
 abbrev pub invariant-loop-i : goal.invariant-loop-i

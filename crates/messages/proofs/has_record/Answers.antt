@@ -1,8 +1,4 @@
-use Prim.Native.Nat.{◌-◌, ◌≤◌}
-use Rattle.lists.specs.Lists.{any}
-use Rattle.protocol.specs.Order.{sent_as}
-use Rattle.tables.specs.View.{records_of}
-use Rattle.lists.proofs.Loops.{Seeking, anys}
+use Rattle.lists.proofs.Loops.{anys}
 use Rattle.tables.proofs.Known.{records-fit}
 use Rattle.std.proofs.Common.{rules}
 use Rattle.messages.proofs.has_record.Goals as goal

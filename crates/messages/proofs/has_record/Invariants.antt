@@ -2,8 +2,7 @@ use Prim.Native.Nat.{◌-◌, ◌≤◌}
 use Rattle.lists.specs.Lists.{any}
 use Rattle.protocol.specs.Order.{sent_as}
 use Rattle.tables.specs.View.{records_of}
-use Rattle.lists.proofs.Loops.{Seeking, anys}
-use Rattle.tables.proofs.Known.{records-fit}
+use Rattle.lists.proofs.Loops.{Seeking}
 use Rattle.messages.proofs.has_record.Given as goal
 
 abbrev pub invariant-loop-i : goal.invariant-loop-i

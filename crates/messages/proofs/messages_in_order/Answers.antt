@@ -1,8 +1,4 @@
-use Prim.Native.Nat.{◌-◌, ◌≤◌}
-use Rattle.lists.specs.Lists.{all}
-use Rattle.tables.specs.View.{messages_of, records_of}
-use Rattle.messages.specs.Clauses.{message_fine}
-use Rattle.lists.proofs.Loops.{Testing, alls}
+use Rattle.lists.proofs.Loops.{alls}
 use Rattle.tables.proofs.Known.{messages-fit}
 use Rattle.std.proofs.Common.{rules}
 use Rattle.messages.proofs.messages_in_order.Goals as goal

@@ -2,8 +2,7 @@ use Prim.Native.Nat.{◌-◌, ◌≤◌}
 use Rattle.lists.specs.Lists.{all}
 use Rattle.tables.specs.View.{messages_of, records_of}
 use Rattle.messages.specs.Clauses.{message_fine}
-use Rattle.lists.proofs.Loops.{Testing, alls}
-use Rattle.tables.proofs.Known.{messages-fit}
+use Rattle.lists.proofs.Loops.{Testing}
 use Rattle.messages.proofs.messages_in_order.Given as goal
 
 abbrev pub invariant-loop-i : goal.invariant-loop-i

@@ -1,8 +1,4 @@
-use Prim.Native.Nat.{◌-◌, ◌≤◌}
-use Rattle.lists.specs.Lists.{all}
-use Rattle.tables.specs.View.{messages_of, records_of}
-use Rattle.messages.specs.Clauses.{record_answered}
-use Rattle.lists.proofs.Loops.{Testing, alls}
+use Rattle.lists.proofs.Loops.{alls}
 use Rattle.tables.proofs.Known.{records-fit}
 use Rattle.std.proofs.Common.{rules}
 use Rattle.messages.proofs.records_answered.Goals as goal

@@ -2,8 +2,7 @@ use Prim.Native.Nat.{◌-◌, ◌≤◌}
 use Rattle.lists.specs.Lists.{all}
 use Rattle.tables.specs.View.{messages_of, records_of}
 use Rattle.messages.specs.Clauses.{record_answered}
-use Rattle.lists.proofs.Loops.{Testing, alls}
-use Rattle.tables.proofs.Known.{records-fit}
+use Rattle.lists.proofs.Loops.{Testing}
 use Rattle.messages.proofs.records_answered.Given as goal
 
 abbrev pub invariant-loop-i : goal.invariant-loop-i

@@ -1,8 +1,4 @@
-use Prim.Native.Nat.{◌-◌, ◌≤◌}
-use lib.ListN.{take}
-use Rattle.lists.specs.Lists.{all}
-use Rattle.names.specs.Names.{is_letter}
-use Rattle.lists.proofs.Loops.{Testing, alls}
+use Rattle.lists.proofs.Loops.{alls}
 use Rattle.names.proofs.Known.{bytes_fit}
 use Rattle.std.proofs.Common.{rules}
 use Rattle.names.proofs.letters_within.Goals as goal

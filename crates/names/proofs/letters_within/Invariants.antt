@@ -2,8 +2,7 @@ use Prim.Native.Nat.{◌-◌, ◌≤◌}
 use lib.ListN.{take}
 use Rattle.lists.specs.Lists.{all}
 use Rattle.names.specs.Names.{is_letter}
-use Rattle.lists.proofs.Loops.{Testing, alls}
-use Rattle.names.proofs.Known.{bytes_fit}
+use Rattle.lists.proofs.Loops.{Testing}
 use Rattle.names.proofs.letters_within.Given as goal
 
 abbrev pub invariant-loop-i : goal.invariant-loop-i

@@ -1,7 +1,5 @@
-use Prim.Native.Nat.{◌-◌, ◌≤◌}
-use Rattle.names.specs.Names.{name_bytes}
 use Rattle.names.proofs.Known.{bytes-length}
-use Rattle.names.proofs.Steps.{Comparing, sames}
+use Rattle.names.proofs.Steps.{sames}
 use Rattle.std.proofs.Common.{rules}
 use Rattle.names.proofs.same.Goals as goal
 

@@ -1,7 +1,6 @@
 use Prim.Native.Nat.{◌-◌, ◌≤◌}
 use Rattle.names.specs.Names.{name_bytes}
-use Rattle.names.proofs.Known.{bytes-length}
-use Rattle.names.proofs.Steps.{Comparing, sames}
+use Rattle.names.proofs.Steps.{Comparing}
 use Rattle.names.proofs.same.Given as goal
 
 abbrev pub invariant-loop-i : goal.invariant-loop-i

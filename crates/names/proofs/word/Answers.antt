@@ -1,9 +1,5 @@
-use mathlib.Core.Path.{◌≡◌}
-use Prim.Native.Nat.{ℕ, ◌≤◌}
-use lib.ListN.{length}
-use Rattle.names.specs.Names.{name_bytes}
 use Rattle.names.proofs.Known.{bytes-length}
-use Rattle.names.proofs.Words.{Spelling, spell-fits, spell-small, spell-sum, spellings}
+use Rattle.names.proofs.Words.{spell-fits, spell-small, spell-sum, spellings}
 use Rattle.std.proofs.Common.{rules}
 use Rattle.names.proofs.word.Goals as goal
 

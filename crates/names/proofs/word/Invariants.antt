@@ -1,9 +1,8 @@
 use mathlib.Core.Path.{◌≡◌}
-use Prim.Native.Nat.{ℕ, ◌≤◌}
+use Prim.Native.Nat.{◌≤◌}
 use lib.ListN.{length}
 use Rattle.names.specs.Names.{name_bytes}
-use Rattle.names.proofs.Known.{bytes-length}
-use Rattle.names.proofs.Words.{Spelling, spell-fits, spell-small, spell-sum, spellings}
+use Rattle.names.proofs.Words.{Spelling}
 use Rattle.names.proofs.word.Given as goal
 
 abbrev pub invariant-loop-i : goal.invariant-loop-i

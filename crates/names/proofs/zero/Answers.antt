@@ -1,6 +1,5 @@
 use mathlib.Core.Path.{refl}
 use Rattle.names.specs.Names.{zero_name}
-use Rattle.std.proofs.Common.{rules}
 use Rattle.names.proofs.zero.Goals as goal
 
 pub returns : goal.returns

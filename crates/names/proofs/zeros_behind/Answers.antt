@@ -1,6 +1,4 @@
-use Prim.Native.Nat.{◌-◌, ◌≤◌}
-use Rattle.names.specs.Names.{is_zero, name_bytes}
-use Rattle.lists.proofs.Tidies.{Clearing, tidies}
+use Rattle.lists.proofs.Tidies.{tidies}
 use Rattle.names.proofs.Known.{bytes-length}
 use Rattle.std.proofs.Common.{rules}
 use Rattle.names.proofs.zeros_behind.Goals as goal

@@ -1,7 +1,6 @@
 use Prim.Native.Nat.{◌-◌, ◌≤◌}
 use Rattle.names.specs.Names.{is_zero, name_bytes}
-use Rattle.lists.proofs.Tidies.{Clearing, tidies}
-use Rattle.names.proofs.Known.{bytes-length}
+use Rattle.lists.proofs.Tidies.{Clearing}
 use Rattle.names.proofs.zeros_behind.Given as goal
 
 abbrev pub invariant-loop-i : goal.invariant-loop-i

@@ -1,11 +1,4 @@
-use mathlib.Core.Bool.{◌&&◌, true}
-use mathlib.Core.Path.{◌≡◌}
-use Prim.Native.Nat.{◌≤◌}
-use Rattle.protocol.specs.Bounds.{max_partitions, queue_count}
-use Rattle.protocol.specs.Order.{in_order}
-use Rattle.tables.specs.View.{shaped, view}
-use Rattle.order.specs.Clauses.{pair_at, partitions_fine, place_at}
-use Rattle.lists.proofs.Downs.{Down, down-next, downs}
+use Rattle.lists.proofs.Downs.{down-next, downs}
 use Rattle.tables.proofs.Known.{sized}
 use Rattle.order.proofs.Decides.{orders}
 use Rattle.order.proofs.Laws.{at_place, records-at}

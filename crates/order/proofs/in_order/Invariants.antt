@@ -5,10 +5,7 @@ use Rattle.protocol.specs.Bounds.{max_partitions, queue_count}
 use Rattle.protocol.specs.Order.{in_order}
 use Rattle.tables.specs.View.{shaped, view}
 use Rattle.order.specs.Clauses.{pair_at, partitions_fine, place_at}
-use Rattle.lists.proofs.Downs.{Down, down-next, downs}
-use Rattle.tables.proofs.Known.{sized}
-use Rattle.order.proofs.Decides.{orders}
-use Rattle.order.proofs.Laws.{at_place, records-at}
+use Rattle.lists.proofs.Downs.{Down}
 use Rattle.order.proofs.in_order.Given as goal
 
 abbrev pub invariant-loop-a : goal.invariant-loop-a

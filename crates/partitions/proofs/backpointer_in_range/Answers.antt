@@ -1,5 +1,4 @@
 use Rattle.partitions.specs.Clauses.{backpointer_among}
-use Rattle.std.proofs.Common.{rules}
 use Rattle.partitions.proofs.backpointer_in_range.Goals as goal
 
 pub returns : goal.returns

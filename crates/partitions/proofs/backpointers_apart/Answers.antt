@@ -1,9 +1,4 @@
-use Prim.Native.Nat.{◌-◌, ◌≤◌}
-use Rattle.lists.specs.Lists.{apart}
-use Rattle.protocol.specs.Order.{backpointers_clash}
-use Rattle.tables.specs.Slots.{no_backpointer}
-use Rattle.tables.specs.View.{backpointers_of}
-use Rattle.lists.proofs.Pairs.{Inner, Outer, pairs}
+use Rattle.lists.proofs.Pairs.{pairs}
 use Rattle.tables.proofs.Known.{backpointers-fit}
 use Rattle.std.proofs.Common.{rules}
 use Rattle.partitions.proofs.backpointers_apart.Goals as goal

@@ -3,8 +3,7 @@ use Rattle.lists.specs.Lists.{apart}
 use Rattle.protocol.specs.Order.{backpointers_clash}
 use Rattle.tables.specs.Slots.{no_backpointer}
 use Rattle.tables.specs.View.{backpointers_of}
-use Rattle.lists.proofs.Pairs.{Inner, Outer, pairs}
-use Rattle.tables.proofs.Known.{backpointers-fit}
+use Rattle.lists.proofs.Pairs.{Inner, Outer}
 use Rattle.partitions.proofs.backpointers_apart.Given as goal
 
 abbrev pub invariant-loop-j : goal.invariant-loop-j

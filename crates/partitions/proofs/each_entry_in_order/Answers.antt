@@ -1,8 +1,4 @@
-use Prim.Native.Nat.{◌-◌, ◌≤◌}
-use Rattle.lists.specs.Lists.{all}
-use Rattle.tables.specs.View.{entries_of}
-use Rattle.partitions.specs.Clauses.{entry_fine}
-use Rattle.lists.proofs.Loops.{Testing, alls}
+use Rattle.lists.proofs.Loops.{alls}
 use Rattle.tables.proofs.Known.{entries_fit}
 use Rattle.std.proofs.Common.{rules}
 use Rattle.partitions.proofs.each_entry_in_order.Goals as goal

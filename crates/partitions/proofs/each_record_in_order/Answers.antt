@@ -1,8 +1,4 @@
-use Prim.Native.Nat.{◌-◌, ◌≤◌}
-use Rattle.lists.specs.Lists.{all}
-use Rattle.tables.specs.View.{records_of}
-use Rattle.partitions.specs.Clauses.{record_fine}
-use Rattle.lists.proofs.Loops.{Testing, alls}
+use Rattle.lists.proofs.Loops.{alls}
 use Rattle.tables.proofs.Known.{records-fit}
 use Rattle.std.proofs.Common.{rules}
 use Rattle.partitions.proofs.each_record_in_order.Goals as goal

@@ -2,8 +2,7 @@ use Prim.Native.Nat.{◌-◌, ◌≤◌}
 use Rattle.lists.specs.Lists.{all}
 use Rattle.tables.specs.View.{records_of}
 use Rattle.partitions.specs.Clauses.{record_fine}
-use Rattle.lists.proofs.Loops.{Testing, alls}
-use Rattle.tables.proofs.Known.{records-fit}
+use Rattle.lists.proofs.Loops.{Testing}
 use Rattle.partitions.proofs.each_record_in_order.Given as goal
 
 abbrev pub invariant-loop-i : goal.invariant-loop-i

@@ -1,9 +1,4 @@
-use Prim.Native.Nat.{◌-◌, ◌≤◌}
-use Rattle.lists.specs.Lists.{apart}
-use Rattle.protocol.specs.Order.{entries_clash}
-use Rattle.tables.specs.Slots.{no_entry}
-use Rattle.tables.specs.View.{entries_of}
-use Rattle.lists.proofs.Pairs.{Inner, Outer, pairs}
+use Rattle.lists.proofs.Pairs.{pairs}
 use Rattle.tables.proofs.Known.{entries_fit}
 use Rattle.std.proofs.Common.{rules}
 use Rattle.partitions.proofs.entries_apart.Goals as goal

@@ -3,8 +3,7 @@ use Rattle.lists.specs.Lists.{apart}
 use Rattle.protocol.specs.Order.{entries_clash}
 use Rattle.tables.specs.Slots.{no_entry}
 use Rattle.tables.specs.View.{entries_of}
-use Rattle.lists.proofs.Pairs.{Inner, Outer, pairs}
-use Rattle.tables.proofs.Known.{entries_fit}
+use Rattle.lists.proofs.Pairs.{Inner, Outer}
 use Rattle.partitions.proofs.entries_apart.Given as goal
 
 abbrev pub invariant-loop-j : goal.invariant-loop-j

@@ -1,5 +1,4 @@
 use Rattle.partitions.specs.Clauses.{given}
-use Rattle.std.proofs.Common.{rules}
 use Rattle.partitions.proofs.is_given.Goals as goal
 
 pub returns : goal.returns

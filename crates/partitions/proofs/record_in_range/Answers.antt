@@ -1,5 +1,4 @@
 use Rattle.partitions.specs.Clauses.{record_among}
-use Rattle.std.proofs.Common.{rules}
 use Rattle.partitions.proofs.record_in_range.Goals as goal
 
 pub returns : goal.returns

@@ -1,9 +1,4 @@
-use Prim.Native.Nat.{◌-◌, ◌≤◌}
-use Rattle.lists.specs.Lists.{apart}
-use Rattle.protocol.specs.Order.{records_clash}
-use Rattle.tables.specs.Slots.{no_record}
-use Rattle.tables.specs.View.{records_of}
-use Rattle.lists.proofs.Pairs.{Inner, Outer, pairs}
+use Rattle.lists.proofs.Pairs.{pairs}
 use Rattle.tables.proofs.Known.{records-fit}
 use Rattle.std.proofs.Common.{rules}
 use Rattle.partitions.proofs.records_apart.Goals as goal

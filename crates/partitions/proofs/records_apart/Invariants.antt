@@ -3,8 +3,7 @@ use Rattle.lists.specs.Lists.{apart}
 use Rattle.protocol.specs.Order.{records_clash}
 use Rattle.tables.specs.Slots.{no_record}
 use Rattle.tables.specs.View.{records_of}
-use Rattle.lists.proofs.Pairs.{Inner, Outer, pairs}
-use Rattle.tables.proofs.Known.{records-fit}
+use Rattle.lists.proofs.Pairs.{Inner, Outer}
 use Rattle.partitions.proofs.records_apart.Given as goal
 
 abbrev pub invariant-loop-j : goal.invariant-loop-j

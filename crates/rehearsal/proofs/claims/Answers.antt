@@ -3,7 +3,6 @@ use Rattle.rehearsal.proofs.Lengths.{line-most}
 use Rattle.rehearsal.proofs.Outcomes.{one_place, one-text}
 use Rattle.rehearsal.proofs.Rows.{one-reading}
 use Rattle.rehearsal.proofs.Returns.{number-back, value-back}
-use Rattle.std.proofs.Common.{rules}
 use Rattle.rehearsal.proofs.claims.Goals as goal
 
 pub returns : goal.returns

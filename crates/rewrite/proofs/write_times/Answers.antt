@@ -1,8 +1,3 @@
-use Prim.Native.Nat.{◌-◌, ◌≤◌}
-use mathlib.Core.Path.{◌≡◌}
-use lib.ListN.{length}
-use Rattle.writing.specs.Written.{after}
-use Rattle.rewrite.specs.Again.{again}
 use Rattle.rewrite.proofs.Times.{repeating}
 use Rattle.std.proofs.Common.{rules}
 use Rattle.rewrite.proofs.write_times.Goals as goal

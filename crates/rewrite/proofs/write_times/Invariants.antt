@@ -3,7 +3,6 @@ use mathlib.Core.Path.{◌≡◌}
 use lib.ListN.{length}
 use Rattle.writing.specs.Written.{after}
 use Rattle.rewrite.specs.Again.{again}
-use Rattle.rewrite.proofs.Times.{repeating}
 use Rattle.rewrite.proofs.write_times.Given as goal
 
 abbrev pub invariant-loop-k : goal.invariant-loop-k

@@ -1,5 +1,4 @@
 use Rattle.service.proofs.Claimed.{calls-follow, code_holds, code-settles, one-outcome, pictures-return}
-use Rattle.std.proofs.Common.{rules}
 use Rattle.service.proofs.claims.Goals as goal
 
 pub returns : goal.returns

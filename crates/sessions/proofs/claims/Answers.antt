@@ -1,5 +1,4 @@
 use Rattle.sessions.proofs.Sessions.{first-closed, first-orderly, session-agrees}
-use Rattle.std.proofs.Common.{rules}
 use Rattle.sessions.proofs.claims.Goals as goal
 
 pub returns : goal.returns

@@ -1,5 +1,4 @@
 use Rattle.sessions.specs.Session.{closed_session}
-use Rattle.std.proofs.Common.{rules}
 use Rattle.sessions.proofs.closed.Goals as goal
 
 pub returns : goal.returns

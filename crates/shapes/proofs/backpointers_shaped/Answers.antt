@@ -1,7 +1,4 @@
-use Prim.Native.Nat.{◌-◌, ◌≤◌}
-use Rattle.protocol.specs.Bounds.{max_backpointers}
-use Rattle.tables.specs.Slots.{free_backpointer}
-use Rattle.lists.proofs.Tidies.{Clearing, tidies}
+use Rattle.lists.proofs.Tidies.{tidies}
 use Rattle.tables.proofs.Known.{backpointers-length}
 use Rattle.std.proofs.Common.{rules}
 use Rattle.shapes.proofs.backpointers_shaped.Goals as goal

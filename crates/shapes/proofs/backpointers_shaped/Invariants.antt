@@ -1,8 +1,7 @@
 use Prim.Native.Nat.{◌-◌, ◌≤◌}
 use Rattle.protocol.specs.Bounds.{max_backpointers}
 use Rattle.tables.specs.Slots.{free_backpointer}
-use Rattle.lists.proofs.Tidies.{Clearing, tidies}
-use Rattle.tables.proofs.Known.{backpointers-length}
+use Rattle.lists.proofs.Tidies.{Clearing}
 use Rattle.shapes.proofs.backpointers_shaped.Given as goal
 
 abbrev pub invariant-loop-i : goal.invariant-loop-i

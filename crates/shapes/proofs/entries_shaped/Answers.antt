@@ -1,7 +1,4 @@
-use Prim.Native.Nat.{◌-◌, ◌≤◌}
-use Rattle.protocol.specs.Bounds.{max_entries}
-use Rattle.tables.specs.Slots.{free_entry}
-use Rattle.lists.proofs.Tidies.{Clearing, tidies}
+use Rattle.lists.proofs.Tidies.{tidies}
 use Rattle.tables.proofs.Known.{entries-length}
 use Rattle.std.proofs.Common.{rules}
 use Rattle.shapes.proofs.entries_shaped.Goals as goal

@@ -1,8 +1,7 @@
 use Prim.Native.Nat.{◌-◌, ◌≤◌}
 use Rattle.protocol.specs.Bounds.{max_entries}
 use Rattle.tables.specs.Slots.{free_entry}
-use Rattle.lists.proofs.Tidies.{Clearing, tidies}
-use Rattle.tables.proofs.Known.{entries-length}
+use Rattle.lists.proofs.Tidies.{Clearing}
 use Rattle.shapes.proofs.entries_shaped.Given as goal
 
 abbrev pub invariant-loop-i : goal.invariant-loop-i

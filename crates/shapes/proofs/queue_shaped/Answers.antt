@@ -1,7 +1,4 @@
-use Prim.Native.Nat.{◌-◌, ◌≤◌}
-use Rattle.protocol.specs.Bounds.{max_messages}
-use Rattle.tables.specs.Slots.{free_message}
-use Rattle.lists.proofs.Tidies.{Clearing, tidies}
+use Rattle.lists.proofs.Tidies.{tidies}
 use Rattle.tables.proofs.Known.{messages-length}
 use Rattle.std.proofs.Common.{rules}
 use Rattle.shapes.proofs.queue_shaped.Goals as goal

@@ -1,8 +1,7 @@
 use Prim.Native.Nat.{◌-◌, ◌≤◌}
 use Rattle.protocol.specs.Bounds.{max_messages}
 use Rattle.tables.specs.Slots.{free_message}
-use Rattle.lists.proofs.Tidies.{Clearing, tidies}
-use Rattle.tables.proofs.Known.{messages-length}
+use Rattle.lists.proofs.Tidies.{Clearing}
 use Rattle.shapes.proofs.queue_shaped.Given as goal
 
 abbrev pub invariant-loop-i : goal.invariant-loop-i

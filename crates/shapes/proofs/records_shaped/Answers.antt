@@ -1,7 +1,4 @@
-use Prim.Native.Nat.{◌-◌, ◌≤◌}
-use Rattle.protocol.specs.Bounds.{max_records}
-use Rattle.tables.specs.Slots.{free_record}
-use Rattle.lists.proofs.Tidies.{Clearing, tidies}
+use Rattle.lists.proofs.Tidies.{tidies}
 use Rattle.tables.proofs.Known.{records-length}
 use Rattle.std.proofs.Common.{rules}
 use Rattle.shapes.proofs.records_shaped.Goals as goal

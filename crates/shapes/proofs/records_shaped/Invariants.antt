@@ -1,8 +1,7 @@
 use Prim.Native.Nat.{◌-◌, ◌≤◌}
 use Rattle.protocol.specs.Bounds.{max_records}
 use Rattle.tables.specs.Slots.{free_record}
-use Rattle.lists.proofs.Tidies.{Clearing, tidies}
-use Rattle.tables.proofs.Known.{records-length}
+use Rattle.lists.proofs.Tidies.{Clearing}
 use Rattle.shapes.proofs.records_shaped.Given as goal
 
 abbrev pub invariant-loop-i : goal.invariant-loop-i

@@ -1,5 +1,4 @@
 use Rattle.picture.specs.Standing.{hands_head}
-use Rattle.std.proofs.Common.{rules}
 use Rattle.standing.proofs.hand_head.Goals as goal
 
 pub returns : goal.returns

@@ -1,5 +1,5 @@
 use mathlib.Core.Path.{refl}
-use Rattle.standing.proofs.Standings.{prefix-count, prefix-long, stand-next, stand-off, stands}
+use Rattle.standing.proofs.Standings.{stand-next, stand-off, stands}
 use Rattle.std.proofs.Common.{rules}
 use Rattle.standing.proofs.record_at.Goals as goal
 

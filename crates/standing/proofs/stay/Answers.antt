@@ -1,6 +1,5 @@
 use Rattle.picture.specs.Answers.{zero_head}
 use Rattle.picture.specs.Standing.{stays}
-use Rattle.std.proofs.Common.{rules}
 use Rattle.standing.proofs.stay.Goals as goal
 
 pub returns : goal.returns

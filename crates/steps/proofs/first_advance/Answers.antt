@@ -1,7 +1,4 @@
-use Prim.Native.Nat.{◌-◌, ◌≤◌}
-use Rattle.tables.specs.View.{view}
-use Rattle.steps.specs.Stepped.{advances_of}
-use Rattle.steps.proofs.Tries.{Trying, all-tries}
+use Rattle.steps.proofs.Tries.{all-tries}
 use Rattle.tables.proofs.Known.{sized}
 use Rattle.std.proofs.Common.{rules}
 use Rattle.steps.proofs.first_advance.Goals as goal

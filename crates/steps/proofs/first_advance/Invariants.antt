@@ -1,8 +1,7 @@
 use Prim.Native.Nat.{◌-◌, ◌≤◌}
 use Rattle.tables.specs.View.{view}
 use Rattle.steps.specs.Stepped.{advances_of}
-use Rattle.steps.proofs.Tries.{Trying, all-tries}
-use Rattle.tables.proofs.Known.{sized}
+use Rattle.steps.proofs.Tries.{Trying}
 use Rattle.steps.proofs.first_advance.Given as goal
 
 abbrev pub invariant-loop-p : goal.invariant-loop-p

@@ -1,5 +1,4 @@
-use Prim.Native.Nat.{◌-◌, ◌≤◌}
-use Rattle.steps.proofs.Tries.{Trying, log-tries, logged}
+use Rattle.steps.proofs.Tries.{log-tries}
 use Rattle.tables.proofs.Known.{sized}
 use Rattle.std.proofs.Common.{rules}
 use Rattle.steps.proofs.first_advance_among.Goals as goal

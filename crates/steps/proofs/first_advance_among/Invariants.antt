@@ -1,6 +1,5 @@
 use Prim.Native.Nat.{◌-◌, ◌≤◌}
-use Rattle.steps.proofs.Tries.{Trying, log-tries, logged}
-use Rattle.tables.proofs.Known.{sized}
+use Rattle.steps.proofs.Tries.{Trying, logged}
 use Rattle.steps.proofs.first_advance_among.Given as goal
 
 abbrev pub invariant-loop-i : goal.invariant-loop-i

@@ -1,7 +1,4 @@
-use Prim.Native.Nat.{◌-◌, ◌≤◌}
-use Rattle.steps.proofs.Tries.{Trying, all-tries}
-use Rattle.steps.specs.Stepped.{deliveries_from}
-use Rattle.tables.specs.View.{view}
+use Rattle.steps.proofs.Tries.{all-tries}
 use Rattle.tables.proofs.Known.{sized}
 use Rattle.std.proofs.Common.{rules}
 use Rattle.steps.proofs.first_delivery.Goals as goal

@@ -1,8 +1,7 @@
 use Prim.Native.Nat.{◌-◌, ◌≤◌}
-use Rattle.steps.proofs.Tries.{Trying, all-tries}
+use Rattle.steps.proofs.Tries.{Trying}
 use Rattle.steps.specs.Stepped.{deliveries_from}
 use Rattle.tables.specs.View.{view}
-use Rattle.tables.proofs.Known.{sized}
 use Rattle.steps.proofs.first_delivery.Given as goal
 
 abbrev pub invariant-loop-s : goal.invariant-loop-s

@@ -1,5 +1,4 @@
-use Prim.Native.Nat.{◌-◌, ◌≤◌}
-use Rattle.steps.proofs.Tries.{Trying, all-tries, receivers}
+use Rattle.steps.proofs.Tries.{all-tries}
 use Rattle.tables.proofs.Known.{sized}
 use Rattle.std.proofs.Common.{rules}
 use Rattle.steps.proofs.first_delivery_from.Goals as goal

@@ -1,6 +1,5 @@
 use Prim.Native.Nat.{◌-◌, ◌≤◌}
-use Rattle.steps.proofs.Tries.{Trying, all-tries, receivers}
-use Rattle.tables.proofs.Known.{sized}
+use Rattle.steps.proofs.Tries.{Trying, receivers}
 use Rattle.steps.proofs.first_delivery_from.Given as goal
 
 abbrev pub invariant-loop-r : goal.invariant-loop-r

@@ -1,6 +1,5 @@
 use Rattle.std.proofs.Common.{ℕ, sym}
 use lib.ListN.{length-replicate}
-use Rattle.std.proofs.Common.{rules}
 use Rattle.stream.proofs.empty_room.Goals as goal
 
 pub returns : goal.returns

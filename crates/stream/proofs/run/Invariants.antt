@@ -1,5 +1,5 @@
 use Rattle.feeding.specs.Feed.{longest_answer}
-use Rattle.std.proofs.Common.{◌*◌, ◌≤◌, length, rules}
+use Rattle.std.proofs.Common.{◌*◌, ◌≤◌, length}
 use Rattle.stream.proofs.run.Given as goal
 
 abbrev pub invariant-loop-turns : goal.invariant-loop-turns

@@ -1,8 +1,4 @@
 use Rattle.codec.proofs.Gets.{gets, run-next}
-use Prim.Native.Nat.{◌≤◌, ◌-◌}
-use mathlib.Core.Path.{◌≡◌}
-use lib.ListN.{take, drop}
-use Rattle.lists.specs.Lists.{pad}
 use Rattle.names.specs.Names.{name_bytes}
 use Rattle.std.proofs.Common.{rules}
 use Rattle.decoding.proofs.bytes.get_run.Goals as goal

@@ -1,4 +1,3 @@
-use Rattle.codec.proofs.Gets.{gets, run-next}
 use Prim.Native.Nat.{◌≤◌, ◌-◌}
 use mathlib.Core.Path.{◌≡◌}
 use lib.ListN.{take, drop}

@@ -1,10 +1,5 @@
-use Prim.Native.Nat.{◌-◌}
-use lib.ListN.{length}
-use Rattle.protocol.specs.Bounds.{max_backpointers}
-use Rattle.tables.specs.Slots.{zero_backpointer}
-use Rattle.picture.specs.Picture.{first, bp, backpointer_fits}
 use Rattle.decoding.proofs.Fields.{mark-bp, short-bp}
-use Rattle.reading.proofs.Gathers.{Walking, gather-end, gather-fail, gather-full, gather-less, gather-start, gather-turn, walk-place}
+use Rattle.reading.proofs.Gathers.{gather-end, gather-fail, gather-full, gather-less, gather-start, gather-turn}
 use borrow.Author.Rules.{part_to_end}
 use Rattle.std.proofs.Common.{rules}
 use Rattle.reading.proofs.sections.read_backpointers.Goals as goal

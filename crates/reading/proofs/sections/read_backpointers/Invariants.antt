@@ -3,8 +3,7 @@ use lib.ListN.{length}
 use Rattle.protocol.specs.Bounds.{max_backpointers}
 use Rattle.tables.specs.Slots.{zero_backpointer}
 use Rattle.picture.specs.Picture.{first, bp, backpointer_fits}
-use Rattle.decoding.proofs.Fields.{mark-bp, short-bp}
-use Rattle.reading.proofs.Gathers.{Walking, gather-end, gather-fail, gather-full, gather-less, gather-start, gather-turn, walk-place}
+use Rattle.reading.proofs.Gathers.{Walking}
 use Rattle.reading.proofs.sections.read_backpointers.Given as goal
 
 abbrev pub invariant-loop-h : goal.invariant-loop-h

@@ -1,10 +1,5 @@
-use Prim.Native.Nat.{◌-◌}
-use lib.ListN.{length}
-use Rattle.protocol.specs.Bounds.{max_entries}
-use Rattle.tables.specs.Slots.{zero_entry}
-use Rattle.picture.specs.Picture.{first, en, entry_fits}
 use Rattle.decoding.proofs.Fields.{mark-en, short-en}
-use Rattle.reading.proofs.Gathers.{Walking, gather-end, gather-fail, gather-full, gather-less, gather-start, gather-turn, walk-place}
+use Rattle.reading.proofs.Gathers.{gather-end, gather-fail, gather-full, gather-less, gather-start, gather-turn}
 use borrow.Author.Rules.{part_to_end}
 use Rattle.std.proofs.Common.{rules}
 use Rattle.reading.proofs.sections.read_entries.Goals as goal

@@ -3,8 +3,7 @@ use lib.ListN.{length}
 use Rattle.protocol.specs.Bounds.{max_entries}
 use Rattle.tables.specs.Slots.{zero_entry}
 use Rattle.picture.specs.Picture.{first, en, entry_fits}
-use Rattle.decoding.proofs.Fields.{mark-en, short-en}
-use Rattle.reading.proofs.Gathers.{Walking, gather-end, gather-fail, gather-full, gather-less, gather-start, gather-turn, walk-place}
+use Rattle.reading.proofs.Gathers.{Walking}
 use Rattle.reading.proofs.sections.read_entries.Given as goal
 
 abbrev pub invariant-loop-h : goal.invariant-loop-h

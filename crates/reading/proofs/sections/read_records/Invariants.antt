@@ -3,8 +3,7 @@ use lib.ListN.{length}
 use Rattle.protocol.specs.Bounds.{max_records}
 use Rattle.tables.specs.Slots.{zero_record}
 use Rattle.picture.specs.Picture.{first, lg, record_fits}
-use Rattle.decoding.proofs.Fields.{mark-lg, short-lg}
-use Rattle.reading.proofs.Gathers.{Walking, gather-end, gather-fail, gather-full, gather-less, gather-start, gather-turn, walk-place}
+use Rattle.reading.proofs.Gathers.{Walking}
 use Rattle.reading.proofs.sections.read_records.Given as goal
 
 abbrev pub invariant-loop-h : goal.invariant-loop-h

@@ -1,6 +1,5 @@
 use Rattle.lists.specs.Lists.{pad}
 use Rattle.protocol.specs.Tables.{no_partition}
-use Rattle.std.proofs.Common.{rules}
 use Rattle.reading.proofs.whole.no_partition.Goals as goal
 
 pub returns : goal.returns

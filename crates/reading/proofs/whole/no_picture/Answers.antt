@@ -1,6 +1,5 @@
 use mathlib.Core.Path.{refl}
 use Rattle.picture.specs.Answers.{zero_head}
-use Rattle.std.proofs.Common.{rules}
 use Rattle.reading.proofs.whole.no_picture.Goals as goal
 
 pub returns : goal.returns

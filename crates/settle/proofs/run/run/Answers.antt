@@ -1,4 +1,4 @@
-use Rattle.settle.proofs.Runs.{Running, runs}
+use Rattle.settle.proofs.Runs.{runs}
 use Rattle.tables.proofs.Known.{sized}
 use Rattle.std.proofs.Common.{rules}
 use Rattle.settle.proofs.run.run.Goals as goal

@@ -1,5 +1,4 @@
-use Rattle.settle.proofs.Runs.{Running, runs}
-use Rattle.tables.proofs.Known.{sized}
+use Rattle.settle.proofs.Runs.{Running}
 use Rattle.settle.proofs.run.run.Given as goal
 
 abbrev pub invariant-loop-left : goal.invariant-loop-left

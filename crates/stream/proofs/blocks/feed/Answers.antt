@@ -1,8 +1,6 @@
-use Rattle.stream.proofs.Feeding.{Feeding, feed-kept, feed-line, feed-room, feed-said, feed-stored, feeding, from-most, from-packed, from-takes, kept-midway, one_less, partition-named, queue-named, session-asked, to-packed, to-sends}
+use Rattle.stream.proofs.Feeding.{feed-kept, feed-line, feed-said, feed-stored, feeding, kept-midway, session-asked}
 use Rattle.answers.proofs.Applied.{change-stores}
-use Rattle.feeding.specs.Feed.{midway}
-use Rattle.stream.specs.Keeping.{line_of}
-use Rattle.std.proofs.Common.{◌-◌, length, refl, ◌∙◌, rules}
+use Rattle.std.proofs.Common.{refl, ◌∙◌, rules}
 use Rattle.losses.proofs.Loses.{tables-left}
 use Rattle.std.proofs.Common.{rules}
 use Rattle.stream.proofs.blocks.feed.Goals as goal

@@ -1,9 +1,7 @@
-use Rattle.stream.proofs.Feeding.{Feeding, feed-kept, feed-line, feed-room, feed-said, feed-stored, feeding, from-most, from-packed, from-takes, kept-midway, one_less, partition-named, queue-named, session-asked, to-packed, to-sends}
-use Rattle.answers.proofs.Applied.{change-stores}
+use Rattle.stream.proofs.Feeding.{Feeding}
 use Rattle.feeding.specs.Feed.{midway}
 use Rattle.stream.specs.Keeping.{line_of}
-use Rattle.std.proofs.Common.{◌-◌, length, refl, ◌∙◌, rules}
-use Rattle.losses.proofs.Loses.{tables-left}
+use Rattle.std.proofs.Common.{◌-◌, length}
 use Rattle.stream.proofs.blocks.feed.Given as goal
 
 abbrev pub invariant-loop-i : goal.invariant-loop-i

@@ -1,5 +1,4 @@
 use Rattle.tables.specs.Slots.{free_backpointer}
-use Rattle.std.proofs.Common.{rules}
 use Rattle.tables.proofs.elements.free_backpointer.Goals as goal
 
 pub returns : goal.returns

@@ -1,5 +1,4 @@
 use Rattle.tables.specs.Slots.{zero_backpointer}
-use Rattle.std.proofs.Common.{rules}
 use Rattle.tables.proofs.elements.zero_backpointer.Goals as goal
 
 pub returns : goal.returns

@@ -1,5 +1,4 @@
 use Rattle.tables.specs.Slots.{zero_entry}
-use Rattle.std.proofs.Common.{rules}
 use Rattle.tables.proofs.elements.zero_entry.Goals as goal
 
 pub returns : goal.returns

@@ -1,5 +1,4 @@
 use Rattle.tables.specs.View.{empty_partition}
-use Rattle.std.proofs.Common.{rules}
 use Rattle.tables.proofs.fresh.empty_partition.Goals as goal
 
 pub returns : goal.returns

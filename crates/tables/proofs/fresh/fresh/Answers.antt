@@ -1,8 +1,5 @@
-use mathlib.Core.Bool.{false}
-use Prim.Native.Nat.{◌-◌, ◌≤◌}
 use Rattle.protocol.specs.Bounds.{max_partitions}
-use Rattle.tables.specs.View.{empty_partition}
-use Rattle.lists.proofs.Repeats.{Setting, setting-turn}
+use Rattle.lists.proofs.Repeats.{setting-turn}
 use Rattle.tables.proofs.Opened.{freshes}
 use Rattle.std.proofs.Common.{rules}
 use Rattle.tables.proofs.fresh.fresh.Goals as goal

@@ -2,8 +2,7 @@ use mathlib.Core.Bool.{false}
 use Prim.Native.Nat.{◌-◌, ◌≤◌}
 use Rattle.protocol.specs.Bounds.{max_partitions}
 use Rattle.tables.specs.View.{empty_partition}
-use Rattle.lists.proofs.Repeats.{Setting, setting-turn}
-use Rattle.tables.proofs.Opened.{freshes}
+use Rattle.lists.proofs.Repeats.{Setting}
 use Rattle.tables.proofs.fresh.fresh.Given as goal
 
 abbrev pub invariant-loop-i : goal.invariant-loop-i

@@ -1,5 +1,4 @@
 use Rattle.lists.specs.Lists.{pad}
-use Rattle.std.proofs.Common.{rules}
 use Rattle.tables.proofs.fresh.no_backpointers.Goals as goal
 
 pub returns : goal.returns

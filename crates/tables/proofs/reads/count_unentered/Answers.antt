@@ -1,7 +1,4 @@
-use Prim.Native.Nat.{◌-◌, ◌≤◌}
-use Rattle.protocol.specs.Tables.{unentered}
-use Rattle.tables.specs.View.{entries_of}
-use Rattle.lists.proofs.Loops.{Counting, countings}
+use Rattle.lists.proofs.Loops.{countings}
 use Rattle.tables.proofs.Known.{records-fit}
 use Rattle.std.proofs.Common.{rules}
 use Rattle.tables.proofs.reads.count_unentered.Goals as goal

@@ -1,8 +1,7 @@
 use Prim.Native.Nat.{◌-◌, ◌≤◌}
 use Rattle.protocol.specs.Tables.{unentered}
 use Rattle.tables.specs.View.{entries_of}
-use Rattle.lists.proofs.Loops.{Counting, countings}
-use Rattle.tables.proofs.Known.{records-fit}
+use Rattle.lists.proofs.Loops.{Counting}
 use Rattle.tables.proofs.reads.count_unentered.Given as goal
 
 abbrev pub invariant-loop-i : goal.invariant-loop-i

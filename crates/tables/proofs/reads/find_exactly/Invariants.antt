@@ -2,8 +2,7 @@ use Prim.Native.Nat.{◌-◌, ◌≤◌}
 use Rattle.lists.specs.Lists.{first_at}
 use Rattle.protocol.specs.Deliver.{is_exactly}
 use Rattle.tables.specs.View.{backpointers_of}
-use Rattle.lists.proofs.Loops.{Finding, finds}
-use Rattle.tables.proofs.Known.{backpointers-fit}
+use Rattle.lists.proofs.Loops.{Finding}
 use Rattle.tables.proofs.reads.find_exactly.Given as goal
 
 abbrev pub invariant-loop-i : goal.invariant-loop-i

@@ -2,8 +2,7 @@ use Prim.Native.Nat.{◌-◌, ◌≤◌}
 use Rattle.lists.specs.Lists.{first_at}
 use Rattle.protocol.specs.Tables.{stands_under}
 use Rattle.tables.specs.View.{entries_of}
-use Rattle.lists.proofs.Loops.{Finding, finds}
-use Rattle.tables.proofs.Known.{entries_fit}
+use Rattle.lists.proofs.Loops.{Finding}
 use Rattle.tables.proofs.reads.find_name.Given as goal
 
 abbrev pub invariant-loop-i : goal.invariant-loop-i

@@ -1,8 +1,4 @@
-use Prim.Native.Nat.{◌-◌, ◌≤◌}
-use Rattle.lists.specs.Lists.{first_at}
-use Rattle.protocol.specs.Tables.{in_place}
-use Rattle.tables.specs.View.{backpointers_of}
-use Rattle.lists.proofs.Loops.{Finding, finds}
+use Rattle.lists.proofs.Loops.{finds}
 use Rattle.tables.proofs.Known.{backpointers-fit}
 use Rattle.std.proofs.Common.{rules}
 use Rattle.tables.proofs.reads.find_place.Goals as goal

@@ -1,8 +1,4 @@
-use Prim.Native.Nat.{◌-◌, ◌≤◌}
-use Rattle.lists.specs.Lists.{first_at}
-use Rattle.protocol.specs.Tables.{record_bears}
-use Rattle.tables.specs.View.{records_of}
-use Rattle.lists.proofs.Loops.{Finding, finds}
+use Rattle.lists.proofs.Loops.{finds}
 use Rattle.tables.proofs.Known.{records-fit}
 use Rattle.std.proofs.Common.{rules}
 use Rattle.tables.proofs.reads.find_record.Goals as goal

@@ -1,9 +1,7 @@
 use Rattle.tables.specs.Slots.{no_backpointer}
-use Rattle.protocol.specs.Bounds.{max_backpointers}
 use Rattle.tables.proofs.Written.{removed-backpointer}
-use Rattle.lists.proofs.Gaps.{Gap, gap-start, gap-turn}
+use Rattle.lists.proofs.Gaps.{gap-start, gap-turn}
 use Rattle.tables.proofs.Known.{backpointers-length}
-use Prim.Native.Nat.{◌-◌, ◌≤◌}
 use Rattle.std.proofs.Common.{rules}
 use Rattle.tables.proofs.writes.remove_backpointer.Goals as goal
 

@@ -1,8 +1,5 @@
-use Rattle.tables.specs.Slots.{no_backpointer}
 use Rattle.protocol.specs.Bounds.{max_backpointers}
-use Rattle.tables.proofs.Written.{removed-backpointer}
-use Rattle.lists.proofs.Gaps.{Gap, gap-start, gap-turn}
-use Rattle.tables.proofs.Known.{backpointers-length}
+use Rattle.lists.proofs.Gaps.{Gap}
 use Prim.Native.Nat.{◌-◌, ◌≤◌}
 use Rattle.tables.proofs.writes.remove_backpointer.Given as goal
 

@@ -1,9 +1,7 @@
 use Rattle.tables.specs.Slots.{no_entry}
-use Rattle.protocol.specs.Bounds.{max_entries}
 use Rattle.tables.proofs.Written.{removed-entry}
-use Rattle.lists.proofs.Gaps.{Gap, gap-start, gap-turn}
+use Rattle.lists.proofs.Gaps.{gap-start, gap-turn}
 use Rattle.tables.proofs.Known.{entries-length}
-use Prim.Native.Nat.{◌-◌, ◌≤◌}
 use Rattle.std.proofs.Common.{rules}
 use Rattle.tables.proofs.writes.remove_entry.Goals as goal
 

@@ -1,8 +1,5 @@
-use Rattle.tables.specs.Slots.{no_entry}
 use Rattle.protocol.specs.Bounds.{max_entries}
-use Rattle.tables.proofs.Written.{removed-entry}
-use Rattle.lists.proofs.Gaps.{Gap, gap-start, gap-turn}
-use Rattle.tables.proofs.Known.{entries-length}
+use Rattle.lists.proofs.Gaps.{Gap}
 use Prim.Native.Nat.{◌-◌, ◌≤◌}
 use Rattle.tables.proofs.writes.remove_entry.Given as goal
 

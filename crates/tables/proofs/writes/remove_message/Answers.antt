@@ -1,9 +1,7 @@
 use Rattle.tables.specs.Slots.{no_message}
-use Rattle.protocol.specs.Bounds.{max_messages}
 use Rattle.tables.proofs.Written.{removed-message}
-use Rattle.lists.proofs.Gaps.{Gap, gap-start, gap-turn}
+use Rattle.lists.proofs.Gaps.{gap-start, gap-turn}
 use Rattle.tables.proofs.Known.{messages-length}
-use Prim.Native.Nat.{◌-◌, ◌≤◌}
 use Rattle.std.proofs.Common.{rules}
 use Rattle.tables.proofs.writes.remove_message.Goals as goal
 

@@ -1,8 +1,5 @@
-use Rattle.tables.specs.Slots.{no_message}
 use Rattle.protocol.specs.Bounds.{max_messages}
-use Rattle.tables.proofs.Written.{removed-message}
-use Rattle.lists.proofs.Gaps.{Gap, gap-start, gap-turn}
-use Rattle.tables.proofs.Known.{messages-length}
+use Rattle.lists.proofs.Gaps.{Gap}
 use Prim.Native.Nat.{◌-◌, ◌≤◌}
 use Rattle.tables.proofs.writes.remove_message.Given as goal
 

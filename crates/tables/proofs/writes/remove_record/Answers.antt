@@ -1,9 +1,7 @@
 use Rattle.tables.specs.Slots.{no_record}
-use Rattle.protocol.specs.Bounds.{max_records}
 use Rattle.tables.proofs.Written.{removed-record}
-use Rattle.lists.proofs.Gaps.{Gap, gap-start, gap-turn}
+use Rattle.lists.proofs.Gaps.{gap-start, gap-turn}
 use Rattle.tables.proofs.Known.{records-length}
-use Prim.Native.Nat.{◌-◌, ◌≤◌}
 use Rattle.std.proofs.Common.{rules}
 use Rattle.tables.proofs.writes.remove_record.Goals as goal
 

@@ -1,8 +1,5 @@
-use Rattle.tables.specs.Slots.{no_record}
 use Rattle.protocol.specs.Bounds.{max_records}
-use Rattle.tables.proofs.Written.{removed-record}
-use Rattle.lists.proofs.Gaps.{Gap, gap-start, gap-turn}
-use Rattle.tables.proofs.Known.{records-length}
+use Rattle.lists.proofs.Gaps.{Gap}
 use Prim.Native.Nat.{◌-◌, ◌≤◌}
 use Rattle.tables.proofs.writes.remove_record.Given as goal
 

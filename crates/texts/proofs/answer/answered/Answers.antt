@@ -1,7 +1,6 @@
 use mathlib.Core.Path.{refl}
 use Rattle.lists.specs.Lists.{pad}
 use Rattle.rehearsal.specs.Answers.{stored}
-use Rattle.std.proofs.Common.{rules}
 use Rattle.texts.proofs.answer.answered.Goals as goal
 
 pub returns : goal.returns

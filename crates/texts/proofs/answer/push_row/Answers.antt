@@ -1,5 +1,4 @@
-use Rattle.texts.proofs.Squares.{Pushing, push-done, pushing}
-use Prim.Native.Nat.{◌-◌, ◌≤◌}
+use Rattle.texts.proofs.Squares.{pushing}
 use Rattle.std.proofs.Common.{rules}
 use Rattle.texts.proofs.answer.push_row.Goals as goal
 

@@ -1,4 +1,4 @@
-use Rattle.texts.proofs.Squares.{Pushing, push-done, pushing}
+use Rattle.texts.proofs.Squares.{Pushing}
 use Prim.Native.Nat.{◌-◌, ◌≤◌}
 use Rattle.texts.proofs.answer.push_row.Given as goal
 

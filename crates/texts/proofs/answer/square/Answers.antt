@@ -1,5 +1,4 @@
-use Rattle.texts.proofs.Squares.{Squaring, square-done, squaring}
-use Prim.Native.Nat.{◌-◌, ◌≤◌}
+use Rattle.texts.proofs.Squares.{squaring}
 use Rattle.std.proofs.Common.{rules}
 use Rattle.texts.proofs.answer.square.Goals as goal
 

@@ -1,4 +1,4 @@
-use Rattle.texts.proofs.Squares.{Squaring, square-done, squaring}
+use Rattle.texts.proofs.Squares.{Squaring}
 use Prim.Native.Nat.{◌-◌, ◌≤◌}
 use Rattle.texts.proofs.answer.square.Given as goal
 

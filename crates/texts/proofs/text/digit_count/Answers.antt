@@ -1,4 +1,4 @@
-use Rattle.texts.proofs.Digits.{Sizing, sizing}
+use Rattle.texts.proofs.Digits.{sizing}
 use Rattle.std.proofs.Common.{rules}
 use Rattle.texts.proofs.text.digit_count.Goals as goal
 

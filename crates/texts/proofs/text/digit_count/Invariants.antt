@@ -1,4 +1,4 @@
-use Rattle.texts.proofs.Digits.{Sizing, sizing}
+use Rattle.texts.proofs.Digits.{Sizing}
 use Rattle.texts.proofs.text.digit_count.Given as goal
 
 abbrev pub invariant-loop-rest : goal.invariant-loop-rest

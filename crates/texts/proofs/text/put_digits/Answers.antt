@@ -1,4 +1,4 @@
-use Rattle.texts.proofs.Digits.{Writing, writing}
+use Rattle.texts.proofs.Digits.{writing}
 use Rattle.std.proofs.Common.{rules}
 use Rattle.texts.proofs.text.put_digits.Goals as goal
 

@@ -1,4 +1,4 @@
-use Rattle.texts.proofs.Digits.{Writing, writing}
+use Rattle.texts.proofs.Digits.{Writing}
 use Rattle.texts.proofs.text.put_digits.Given as goal
 
 abbrev pub invariant-loop-rest : goal.invariant-loop-rest

@@ -1,5 +1,4 @@
-use Rattle.texts.proofs.Spaces.{Putting, puttings}
-use Prim.Native.Nat.{◌-◌, ◌≤◌}
+use Rattle.texts.proofs.Spaces.{puttings}
 use Rattle.std.proofs.Common.{rules}
 use Rattle.texts.proofs.text.put_spaced.Goals as goal
 

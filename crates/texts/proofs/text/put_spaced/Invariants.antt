@@ -1,4 +1,4 @@
-use Rattle.texts.proofs.Spaces.{Putting, puttings}
+use Rattle.texts.proofs.Spaces.{Putting}
 use Prim.Native.Nat.{◌-◌, ◌≤◌}
 use Rattle.texts.proofs.text.put_spaced.Given as goal
 

@@ -1,5 +1,4 @@
-use Rattle.texts.proofs.Spaces.{Spacing, spacing}
-use Prim.Native.Nat.{◌-◌, ◌≤◌}
+use Rattle.texts.proofs.Spaces.{spacing}
 use Rattle.std.proofs.Common.{rules}
 use Rattle.texts.proofs.text.spaced_size.Goals as goal
 

@@ -1,4 +1,4 @@
-use Rattle.texts.proofs.Spaces.{Spacing, spacing}
+use Rattle.texts.proofs.Spaces.{Spacing}
 use Prim.Native.Nat.{◌-◌, ◌≤◌}
 use Rattle.texts.proofs.text.spaced_size.Given as goal
 

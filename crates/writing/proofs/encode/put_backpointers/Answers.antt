@@ -1,7 +1,5 @@
-use Prim.Native.Nat.{◌-◌, ◌≤◌}
 use Rattle.tables.proofs.Known.{backpointers-fit}
-use Rattle.picture.specs.Picture.{first, bp}
-use Rattle.writing.proofs.Puttings.{Laying, lay-end, lay-room, lay-start, lay-turn}
+use Rattle.writing.proofs.Puttings.{lay-start, lay-turn}
 use Rattle.std.proofs.Common.{rules}
 use Rattle.writing.proofs.encode.put_backpointers.Goals as goal
 

@@ -1,7 +1,6 @@
 use Prim.Native.Nat.{◌-◌, ◌≤◌}
-use Rattle.tables.proofs.Known.{backpointers-fit}
 use Rattle.picture.specs.Picture.{first, bp}
-use Rattle.writing.proofs.Puttings.{Laying, lay-end, lay-room, lay-start, lay-turn}
+use Rattle.writing.proofs.Puttings.{Laying}
 use Rattle.writing.proofs.encode.put_backpointers.Given as goal
 
 abbrev pub invariant-loop-i : goal.invariant-loop-i

@@ -1,7 +1,6 @@
 use Prim.Native.Nat.{◌-◌, ◌≤◌}
-use Rattle.tables.proofs.Known.{records-fit}
 use Rattle.picture.specs.Picture.{first, lg}
-use Rattle.writing.proofs.Puttings.{Laying, lay-end, lay-room, lay-start, lay-turn}
+use Rattle.writing.proofs.Puttings.{Laying}
 use Rattle.writing.proofs.encode.put_records.Given as goal
 
 abbrev pub invariant-loop-i : goal.invariant-loop-i

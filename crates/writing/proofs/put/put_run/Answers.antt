@@ -1,10 +1,6 @@
 use Rattle.names.specs.Names.{name_bytes}
 use Rattle.lists.proofs.Arrays.{length-of}
 use Rattle.codec.proofs.Puts.{puts, put_next}
-use Prim.Native.Nat.{◌≤◌, ◌-◌}
-use mathlib.Core.Path.{◌≡◌}
-use lib.ListN.{length, take}
-use Rattle.codec.specs.Over.{over}
 use Rattle.std.proofs.Common.{rules}
 use Rattle.writing.proofs.put.put_run.Goals as goal
 

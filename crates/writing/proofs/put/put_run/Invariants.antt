@@ -1,6 +1,3 @@
-use Rattle.names.specs.Names.{name_bytes}
-use Rattle.lists.proofs.Arrays.{length-of}
-use Rattle.codec.proofs.Puts.{puts, put_next}
 use Prim.Native.Nat.{◌≤◌, ◌-◌}
 use mathlib.Core.Path.{◌≡◌}
 use lib.ListN.{length, take}

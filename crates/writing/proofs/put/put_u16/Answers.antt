@@ -1,5 +1,3 @@
-use lib.ListN.{length-set}
-use native.Mathlib.Omega.{arith}
 use Rattle.codec.proofs.Puts.{puts}
 use Rattle.std.proofs.Common.{rules}
 use Rattle.writing.proofs.put.put_u16.Goals as goal
