@@ -20,7 +20,7 @@ use Rattle.order.specs.Clauses.{lasts_of, pair_at, partitions_fine, place_at, pl
 use Rattle.lists.proofs.Alls.{past_all}
 use Rattle.lists.proofs.Chains.{every-last, every-no, every-yes}
 use Rattle.lists.proofs.Downs.{Down}
-use Rattle.lists.proofs.Images.{get_d_past}
+use Rattle.lists.proofs.Images.{get_or-past}
 use Rattle.lists.proofs.Tests.{◌also◌, and_left, and_right, below_at, below_true, bool_same, both_true, by_test, done, every-at, every_of}
 use Rattle.lists.proofs.Tidies.{tidy-count}
 use Rattle.tables.proofs.Packs.{Shaped, shaped-all}
@@ -47,7 +47,7 @@ module _ (t : Tables) (z : Sized t) (e' : shaped t ≡ true) where
       (λ y. let h = ltb-true i max_partitions y in go i h ∙ ap (λ (x : Part). x.last) (sym (partition-view t z e' i h)))
       (λ y.
       let h : max_partitions ≤ i = ltb-false i max_partitions y in
-      get_d_past (lasts_of t.partitions) i 0 h ∙ ap (λ (x : Part). x.last) (sym (past-view (view t) i (rw (count-view t z s.count) (omega (arith, s.count))))))
+      get_or-past (lasts_of t.partitions) i 0 h ∙ ap (λ (x : Part). x.last) (sym (past-view (view t) i (rw (count-view t z s.count) (omega (arith, s.count))))))
     where
       go : (i : ℕ) → i < max_partitions → get_or (lasts_of t.partitions) i 0 ≡ (view_partition (partition_at t i)).last
       go zero l = refl

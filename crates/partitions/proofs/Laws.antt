@@ -19,7 +19,7 @@ use Rattle.tables.specs.declared.Entries.{Entries}
 use Rattle.tables.specs.declared.Partition.{Partition}
 use Rattle.tables.specs.declared.Records.{Records}
 use Rattle.partitions.specs.Clauses.{backpointer_given, backpointers_fine, entries_fine, given, partition_fine, records_fine, room_in}
-use Rattle.lists.proofs.Images.{get_d_past}
+use Rattle.lists.proofs.Images.{get_or-past}
 use Rattle.lists.proofs.Tests.{◌also◌, done, every-at, every_of}
 use Rattle.lists.proofs.Tidies.{tidy-count}
 use Rattle.tables.proofs.Rooms.{room-easy}
@@ -58,7 +58,7 @@ nothing-given (suc n) = rw (lt-leb (suc n) 0 (omega arith)) (go (leb 1 (suc n)))
 module _ (lasts : List ℕ) (b : Backpointer) where
   pub given-past : length lasts ≡ max_partitions → max_partitions ≤ b.parent → false ≡ backpointer_given lasts b
   unfolding backpointer_given
-  given-past e h = let p : length lasts ≤ b.parent = omega arith in nothing-given b.number ∙ rw (get_d_past lasts b.parent 0 p)
+  given-past e h = let p : length lasts ≤ b.parent = omega arith in nothing-given b.number ∙ rw (get_or-past lasts b.parent 0 p)
 
   pub given-here : (last : ℕ) → last ≡ get_or lasts b.parent 0 → (r : Bool) → r ≡ given last b.number → r ≡ backpointer_given lasts b
   unfolding backpointer_given

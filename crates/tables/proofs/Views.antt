@@ -12,7 +12,7 @@ use Rattle.tables.specs.Slots.{free_backpointer, free_entry, free_record}
 use Rattle.tables.specs.View.{Ranged, Sized, messages_of, no_partition, no_queue, partition_at, queue_at, shaped, shaped_partition, view, view_partition}
 use Rattle.tables.specs.declared.Partition.{Partition}
 use Rattle.tables.specs.declared.Tables.{Tables}
-use Rattle.lists.proofs.Images.{get_d_past}
+use Rattle.lists.proofs.Images.{get_or-past}
 use Rattle.lists.proofs.Tests.{by_test}
 use Rattle.lists.proofs.Tidies.{tidy-count}
 use Rattle.tables.proofs.Packs.{absent-view, shaped-all, shaped-parts}
@@ -37,7 +37,7 @@ queue-view t s r = get_or-map messages_of t.queues (s * max_partitions + r) no_q
 -- one that is not there
 pub past-view : (m : Model) (i : ℕ) → partition_count m ≤ i → partition m i ≡ no_part
 unfolding partition
-past-view m i h = get_d_past m.partitions i no_part h
+past-view m i h = get_or-past m.partitions i no_part h
 
 -- also of a partition that is not there
 pub partition-view : (t : Tables) → Sized t → shaped t ≡ true → (i : ℕ) → i < max_partitions → partition (view t) i ≡ view_partition (partition_at t i)
