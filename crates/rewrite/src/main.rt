@@ -4,7 +4,7 @@
 // is a back-pointer of another partition's (16), since in fresh tables the others have given no number.
 #![tactic(auto)]
 
-ghost use Rattle.std.specs.Prelude.{◌≡◌, ◌≤◌, IfOk, length};
+ghost use Rattle.std.specs.Prelude.{◌≡◌, ◌≤◌, length};
 ghost use Rattle.loading.specs.Loaded.{loaded};
 ghost use Rattle.writing.specs.Written.{after};
 ghost use Rattle.rewrite.specs.Again.{Counts, again, awaiting, times_of};
@@ -15,8 +15,8 @@ use numbers::{accepted, refusal_number};
 use picture::Head;
 use protocol::Refusal;
 use reading::read_picture;
-use std::io::{Read, Write};
-use std::{env, io};
+use std::io::{self, Read, Write};
+use std::rt::Env;
 use tables::Tables;
 use writing::{Reported, write_picture};
 
@@ -106,34 +106,35 @@ fn rewrite(rt: &HostRuntime, bytes: &[u8], times: u32, room: &mut [u8]) -> io::R
     show(rt, told, room)
 }
 
-// Reads until the buffer is full or the input ends, and says how many bytes it has then.
-fn read_full<R: Read>(from: &mut R, bytes: &mut [u8]) -> io::Result<usize>
-    ensures { IfOk result (λ n. n ≤ length bytes.new) }
+// Reads until the buffer is full, the input ends or a read fails, and says how many bytes it has then.
+fn read_full<R: Read>(from: &mut R, bytes: &mut [u8]) -> usize
+    ensures { result ≤ length bytes.new }
 {
     let mut size: usize = 0;
     while size < bytes.len() {
-        let read = from.read(&mut bytes[size..])?;
-        if read == 0 {
-            return Ok(size);
+        match from.read(&mut bytes[size..]) {
+            Ok(0) => return size,
+            Ok(read) => size += read,
+            Err(_) => return size,
         }
-        size += read;
     }
-    Ok(size)
+    size
 }
 
-// How many times the first argument says; none where there is none.
-fn times_told(rt: &HostRuntime) -> io::Result<u32> {
-    match env::args(rt)?.nth(1) {
-        Some(word) => Ok(times_of(word.as_bytes())),
-        None => Ok(0),
+// How many times the first argument says; none where there is none, or one that is longer than the buffer.
+fn times_told(rt: &HostRuntime) -> u32 {
+    let mut word = [0; BUFFER];
+    match rt.arg(1, &mut word) {
+        Ok(length) => times_of(&word[..length]),
+        Err(_) => 0,
     }
 }
 
 // The buffers have more bytes than the largest picture, 2,620: what fills one is refused.
 fn main(rt: HostRuntime) -> io::Result<()> {
     let mut bytes = [0; BUFFER];
-    let size = read_full(&mut rt.stdin(), &mut bytes)?;
-    let times = times_told(&rt)?;
+    let size = read_full(&mut rt.stdin(), &mut bytes);
+    let times = times_told(&rt);
     let mut room = [0; BUFFER];
     rewrite(&rt, &bytes[..size], times, &mut room)
 }

@@ -1,4 +1,4 @@
-// A rehearsal from a file to standard output (document 01, 'The rehearsal program'), of which the programs are made.
+// A rehearsal from wherever it is read to wherever it is written (document 01, 'The rehearsal program'), of which the programs are made.
 // `blocks` answers the bytes of a block; here blocks are read and their answers written, and that is all.
 #![tactic(auto)]
 
@@ -101,7 +101,7 @@ fn finish<W: Write>(to: &mut W, k: Kept, out: &mut [u8]) -> usize
     place
 }
 
-// A whole rehearsal: the schedule from one end, its answers to the other. What a file holds no contract can say.
+// A whole rehearsal: the schedule from one end, its answers to the other. What a file holds, or standard input, no contract can say.
 // A proved loop has to end, and nothing says that the input does: no run takes so many turns.
 pub fn run<R: Read, W: Write>(from: &mut R, to: &mut W) {
     let mut bytes = [0; BLOCK];
