@@ -85,11 +85,11 @@ lighter : (N : ℕ) {m m' : Model} (g : Whole m) → Moves m m' g → ((q : ℕ)
 lighter N {m} g x h =
     let w : 0 < load (g.local x.giver x.number) = let l = x.moved.less in omega arith in
     let p4 : x.giver < max_partitions = four g.shape x.giver (inside g x.giver x.number w) in
-    let n_n : x.number < N =
+    let below-N : x.number < N =
     by_test (ltb (partition m x.giver).last x.number)
     (λ t. absurd (given g x.giver x.number w (ltb-true _ _ t)))
     (λ t. let a = ltb-false (partition m x.giver).last x.number t in let b = h x.giver in omega arith) in
-    record { whole = moved-whole g x.moved; less = weight-less g x.moved N p4 n_n; lasts = λ q. rw (x.moved.others.lasts q) (h q) }
+    record { whole = moved-whole g x.moved; less = weight-less g x.moved N p4 below-N; lasts = λ q. rw (x.moved.others.lasts q) (h q) }
 
 pub accepted-more : (e : Event) (es : List Event) (m : Model) → accepted_in (e ∷ es) m ≡ hit (accepted (apply e m)) + accepted_in es (apply e m).model
 unfolding accepted_in answers

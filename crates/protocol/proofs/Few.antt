@@ -75,11 +75,11 @@ module _ (m : Model) (f : Few m) (a b : ℕ) (hb : b < max_partitions) where
     pub half-less : (n : ℕ) → keep (about a b p n) (queue m a b) ≡ [] → 1 ≤ length (keep (record_bears n) (partition m p).records)
         → length (keep g (queue m a b)) < length (partition m p).records
     half-less n e h =
-        let n_n : n < N = by_test (ltb (partition m p).last n)
+        let below-N : n < N = by_test (ltb (partition m p).last n)
         (λ u. let z : length (keep (record_bears n) (partition m p).records) ≡ 0 = ap length (f.small p n (ltb-true _ _ u)) in absurd (omega arith))
         (λ u. let y = ltb-false (partition m p).last n u in omega arith) in
         let s₁ = by-number-ge (λ (x : Message). x.number) N (keep g (queue m a b)) all_small in
-        let s₂ = sum_lt N mine (λ n. length (keep (record_bears n) (partition m p).records)) each-le n n_n
+        let s₂ = sum_lt N mine (λ n. length (keep (record_bears n) (partition m p).records)) each-le n below-N
         (let u = under n in let v = ap length e in omega arith) in
         let s₃ = by_number (λ (r : Record). r.number) N (partition m p).records in
         omega arith

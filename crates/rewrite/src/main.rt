@@ -20,6 +20,7 @@ use std::rt::Env;
 use tables::Tables;
 use writing::{Reported, write_picture};
 
+// More bytes than the largest picture has, 2,620: a picture that fills a buffer is refused.
 const BUFFER: usize = 4096;
 
 // How many times, as a decimal says it; of anything else none, and then nothing is written.
@@ -130,7 +131,6 @@ fn times_told(rt: &HostRuntime) -> u32 {
     }
 }
 
-// The buffers have more bytes than the largest picture, 2,620: what fills one is refused.
 fn main(rt: HostRuntime) -> io::Result<()> {
     let mut bytes = [0; BUFFER];
     let size = read_full(&mut rt.stdin(), &mut bytes);

@@ -1,4 +1,4 @@
-// A rehearsal from wherever it is read to wherever it is written (document 01, 'The rehearsal program'), of which the programs are made.
+// A rehearsal from a reader to a writer (document 01, 'The rehearsal program'), of which the programs are made.
 // `blocks` answers the bytes of a block; here blocks are read and their answers written, and that is all.
 #![tactic(auto)]
 
@@ -40,18 +40,12 @@ struct Turn {
 fn read_block<R: Read>(from: &mut R, block: &mut [u8]) -> usize
     ensures { result ≤ length block.new }
 {
-    match from.read(block) {
-        Ok(read) => read,
-        Err(_) => 0,
-    }
+    from.read(block).unwrap_or(0)
 }
 
 // Whether all of the answers could be written.
 fn write_answers<W: Write>(to: &mut W, answers: &[u8]) -> bool {
-    match to.write_all(answers) {
-        Ok(_) => true,
-        Err(_) => false,
-    }
+    to.write_all(answers).is_ok()
 }
 
 // Reads a block, answers it and writes the answers at once.
@@ -101,7 +95,7 @@ fn finish<W: Write>(to: &mut W, k: Kept, out: &mut [u8]) -> usize
     place
 }
 
-// A whole rehearsal: the schedule from one end, its answers to the other. What a file holds, or standard input, no contract can say.
+// A whole rehearsal: the schedule is read to its end, and its answers written. What a file holds no contract can say.
 // A proved loop has to end, and nothing says that the input does: no run takes so many turns.
 pub fn run<R: Read, W: Write>(from: &mut R, to: &mut W) {
     let mut bytes = [0; BLOCK];

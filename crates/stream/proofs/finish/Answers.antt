@@ -1,6 +1,5 @@
 use Rattle.stream.proofs.Turning.{finishing}
 use Rattle.std.proofs.Common.{length-take-le, rules}
-use Rattle.std.proofs.Common.{rules}
 use Rattle.stream.proofs.finish.Goals as goal
 
 pub returns-else-has_begun : goal.returns-else-has_begun

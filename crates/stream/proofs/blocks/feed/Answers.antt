@@ -2,7 +2,6 @@ use Rattle.stream.proofs.Feeding.{feed-kept, feed-line, feed-said, feed-stored, 
 use Rattle.answers.proofs.Applied.{change-stores}
 use Rattle.std.proofs.Common.{refl, ◌∙◌, rules}
 use Rattle.losses.proofs.Loses.{tables-left}
-use Rattle.std.proofs.Common.{rules}
 use Rattle.stream.proofs.blocks.feed.Goals as goal
 
 pub loop-i-init : goal.loop-i-init

@@ -1,6 +1,5 @@
 use Rattle.stream.proofs.Answering.{answering}
 use Rattle.std.proofs.Common.{rules}
-use Rattle.std.proofs.Common.{rules}
 use Rattle.stream.proofs.blocks.put_answer.Goals as goal
 
 pub returns-clause-adds : goal.returns-clause-adds

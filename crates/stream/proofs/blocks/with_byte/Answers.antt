@@ -1,6 +1,5 @@
 use Rattle.stream.proofs.Gathering.{gathering}
 use Rattle.std.proofs.Common.{rules}
-use Rattle.std.proofs.Common.{rules}
 use Rattle.stream.proofs.blocks.with_byte.Goals as goal
 
 pub returns-else-at-lt-LINE_ROOM : goal.returns-else-at-lt-LINE_ROOM
