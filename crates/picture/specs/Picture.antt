@@ -18,7 +18,7 @@ use Rattle.partitions.specs.Clauses.{entry_among, backpointer_among, record_amon
 use Rattle.picture.specs.declared.Head.{Head}
 use Rattle.picture.specs.Rows.{Row, put_row, Read, fail, more, next, one, Section, Table, close, ◌before◌, Contents, put_table, read_table, counted}
 
--- ---- the letters of the marks
+-- ---- the letters of the marks HD, EN, BP, LG and ED, which are capitals
 
 abbrev pub letter_b : ℕ
 letter_b = 66
