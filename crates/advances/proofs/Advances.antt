@@ -6,9 +6,8 @@ use Prim.Native.Nat.{◌<◌, ℕ}
 use native.Mathlib.Omega.{arith}
 use lib.Dec.{ltb}
 use lib.ListN.{get_or}
+use Rattle.std.specs.Prelude.{None, Option, Some}
 use Rattle.lists.specs.Lists.{first_at, is_some, keep}
-use Rattle.lists.specs.declared.Found.{Found}
-use Rattle.lists.specs.declared.Found.TheVariants.{At, Nothing}
 use Rattle.protocol.specs.Advance.{advance, advance_found, next, next_of, perform}
 use Rattle.protocol.specs.Bounds.{max_records}
 use Rattle.protocol.specs.Tables.{entry_bears, partition, record_bears, stands_under, Partition as Part}
@@ -52,21 +51,21 @@ module _ (t : Tables) (z : Sized t) (r : Ready t) (p : ℕ) (h : p < t.count) (x
         ∙ ap (λ (y : Record). stored t (advance_found (view t) p (y ∷ []))) place
 
   -- the record is looked for by its number
-  module _ (n : ℕ) (f : Found) (g : f ≡ first_at (record_bears n) (records_of x.records)) where
+  module _ (n : ℕ) (f : Option ℕ) (g : f ≡ first_at (record_bears n) (records_of x.records)) where
     abbrev Goal : Answered → Type 0
     Goal a = a ≡ stored t (advance_found (view t) p (keep (record_bears n) (partition (view t) p).records))
 
-    pub advance-missing : (a : Answered) → f ≡ Nothing → a ≡ refused_with t NoRecord → Goal a
+    pub advance-missing : (a : Answered) → f ≡ None → a ≡ refused_with t NoRecord → Goal a
     unfolding stored
     advance-missing a q k = k ∙ rw (seen, none_kept (record_bears n) 0 (records_of x.records) (sym g ∙ q)) refl
 
-    pub advance-at : (i : ℕ) → f ≡ At i → i < (partition_at t p).records.count
+    pub advance-at : (i : ℕ) → f ≡ Some i → i < (partition_at t p).records.count
     advance-at i q = rw (← e) (found_below (record_bears n) x.records.items x.records.count i f g q no_record)
 
-    pub advance-below : (i : ℕ) → f ≡ At i → i < max_records
+    pub advance-below : (i : ℕ) → f ≡ Some i → i < max_records
     advance-below i q = let k = read-records t p z r h x e in let b = found_below (record_bears n) x.records.items x.records.count i f g q no_record in omega arith
 
-    pub advance-found : (a : Answered) (i : ℕ) → f ≡ At i → a ≡ stored t (advance_found (view t) p (get_or (partition_at t p).records.items i no_record ∷ [])) → Goal a
+    pub advance-found : (a : Answered) (i : ℕ) → f ≡ Some i → a ≡ stored t (advance_found (view t) p (get_or (partition_at t p).records.items i no_record ∷ [])) → Goal a
     advance-found a i q k =
         let w = found-kept (record_bears n) x.records.items x.records.count i f g q no_record in
         let l : keep (record_bears n) (partition (view t) p).records ≡ get_or x.records.items i no_record ∷ w.0 =

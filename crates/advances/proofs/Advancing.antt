@@ -2,7 +2,7 @@
 use mathlib.Core.Bool.{Bool, false, true}
 use mathlib.Core.List.{List, Memᴰ, [], ◌++◌, ◌∷◌}
 use mathlib.Core.Path.{◌∙◌, ◌≡◌, ap, refl, subst, sym}
-use Prim.Native.Nat.{◌*◌, ◌+◌, ◌<◌, ◌≤◌, suc, zero, ℕ}
+use Prim.Native.Nat.{◌*◌, ◌+◌, ◌<◌, ◌≤◌, ℕ}
 use native.Mathlib.Omega.{arith}
 use lib.ListN.{get_or, length, set}
 use lib.Seq.{get_or-take, length-take-le}
@@ -12,7 +12,7 @@ use Rattle.protocol.specs.Answers.{accept, refuse}
 use Rattle.protocol.specs.Bounds.{max_entries, max_partitions, max_records}
 use Rattle.protocol.specs.Elements.{adds, is_accepted, is_sent}
 use Rattle.tables.specs.Slots.{no_entry, no_record}
-use Rattle.tables.specs.View.{Sized, Stored, entries_of, no_queue, pack, pack_entries, pack_records, partition_at, queue_at, records_of, view, view_partition}
+use Rattle.tables.specs.View.{Sized, Stored, entries_of, no_queue, pack, pack_entries, pack_records, partition_at, queue_at, records_of, view, view_partition, Entries, Records}
 use Rattle.answers.specs.Called.{Ready, refused_with, stored}
 use Rattle.answers.specs.declared.Answered.{Answered}
 use Rattle.advances.specs.Opened.{OpenAt, SendsTo}
@@ -30,8 +30,6 @@ use Rattle.lists.proofs.Backs.{set_back}
 use Rattle.answers.proofs.Ways.{passes, read_count, read-entries, read-four, read-records, read-sized, read_up, read_view, ready-stored, ready-view, refuses}
 use Rattle.protocol.specs.Tables.{Model, entry_bears, entry_of, in_stage, message_of, partition, record_bears, send, set_stage, turned, Partition as Part}
 use Rattle.protocol.specs.declared.Stage.TheVariants.{Cleared, Held, Ready as ReadyStage, Refused, Sent}
-use Rattle.lists.specs.declared.Found.{Found}
-use Rattle.lists.specs.declared.Found.TheVariants.{At, Nothing}
 use Rattle.protocol.specs.declared.Body.TheVariants.{Request}
 use Rattle.protocol.specs.declared.Entry.{Entry}
 use Rattle.protocol.specs.declared.Kind.{Kind}
@@ -43,11 +41,10 @@ use Rattle.protocol.specs.declared.Record.{Record}
 use Rattle.protocol.specs.declared.Refusal.{Refusal}
 use Rattle.protocol.specs.declared.Refusal.TheVariants.{TowardsDown}
 use Rattle.protocol.specs.declared.Reply.{Reply}
-use Rattle.protocol.specs.declared.Reply.TheVariants.{Done, NameTaken, None}
+use Rattle.protocol.specs.declared.Reply.TheVariants.{Done, NameTaken, None as NoReply}
+use Rattle.std.specs.Prelude.{None, Option, Some}
 use Rattle.protocol.specs.declared.Stage.{Stage}
-use Rattle.tables.specs.declared.Entries.{Entries}
 use Rattle.tables.specs.declared.Partition.{Partition}
-use Rattle.tables.specs.declared.Records.{Records}
 use Rattle.tables.specs.declared.Tables.{Tables}
 
 -- which records enter a name, and which take one out
@@ -210,14 +207,14 @@ module _ (t : Tables) (z : Sized t) (r : Ready t) (p i : ℕ) (c : Record) (o : 
       c.number Done a ha
 
   -- the entry is looked for by its number
-  module _ (f : Found) (g : f ≡ first_at (entry_bears c.number) (entries_of x.entries)) (n : TakesOut ≡ next (partition m p) c) where
-    pub out-missing : (a : Answered) → f ≡ Nothing → a ≡ stored t (perform m p c TakesOut)
+  module _ (f : Option ℕ) (g : f ≡ first_at (entry_bears c.number) (entries_of x.entries)) (n : TakesOut ≡ next (partition m p) c) where
+    pub out-missing : (a : Answered) → f ≡ None → a ≡ stored t (perform m p c TakesOut)
     unfolding next
     out-missing a q =
         let k : keep (entry_bears c.number) (partition m p).entries ≡ [] = rw seen (none_kept (entry_bears c.number) 0 (entries_of x.entries) (sym g ∙ q)) in
         no_true (taking c.kind c.stage _ _ n) (ap is_some k)
 
-    pub out-found : (j : ℕ) (l : Entries) (a : Change) → f ≡ At j → l ≡ pack_entries (remove_at j (entries_of x.entries)) → a ≡ changes_with p (with_entries_of l) c.number Done
+    pub out-found : (j : ℕ) (l : Entries) (a : Change) → f ≡ Some j → l ≡ pack_entries (remove_at j (entries_of x.entries)) → a ≡ changes_with p (with_entries_of l) c.number Done
         → applied t a ≡ stored t (perform m p c TakesOut)
     unfolding perform
     out-found j l a q hl ha =
@@ -231,28 +228,16 @@ module _ (t : Tables) (z : Sized t) (r : Ready t) (p i : ℕ) (c : Record) (o : 
   -- the record's request goes to q
   module _ (q : ℕ) (s : SendsTo t p c q) where
     pub requested : (c' : Record) (l : Records) (g : Message) (a : Change) → c' ≡ in_stage Sent c → l ≡ pack_records (set (records_of x.records) i c') → g ≡ message_of Request c
-        → a ≡ exchanges_with p q (with_records_of l) c.number false true g
-        → applied t a ≡ stored t (accept c.number None (send (set_stage m p c.number Sent) p c.partition (message_of Request c)))
+        → a ≡ exchanges_with p q (with_records_of l) c.number false (Some g)
+        → applied t a ≡ stored t (accept c.number NoReply (send (set_stage m p c.number Sent) p c.partition (message_of Request c)))
     requested c' l g a hc hl hg ha =
-        records-exchange t p stored_here x e q (ready-stored t q z r s.there) false true g c.number a (map_if (record_bears c.number) (in_stage Sent)) l
+        records-exchange t p stored_here x e q (ready-stored t q z r s.there) false (Some g) c.number a (map_if (record_bears c.number) (in_stage Sent)) l
         (hl ∙ ap (λ (j : Record). pack_records (set ls i j)) hc ∙ ap pack_records (changed (in_stage Sent))) ha
         ∙ rw (hg, s.owner) refl
 
 pub ruleset steps = (step-records, step-entries, step-place, step-most, step-entries-most, closed, turned_round, enter-room, entered, out-missing, out-found, requested)
 
 -- ---- the record's request is sent to q
-
--- whether partition q is up, which is the one at place k
-pub up_of : (t : Tables) (q k : ℕ) → q ≡ k → (partition_at t k).up ≡ (partition_at t q).up
-up_of t q k e = rw e refl
-
--- none of the first three
-pub up-last : (t : Tables) (q : ℕ) → q < max_partitions → (q ≡ 0 → ⊥) → (q ≡ 1 → ⊥) → (q ≡ 2 → ⊥) → (partition_at t 3).up ≡ (partition_at t q).up
-up-last t zero l a b c = absurd (a refl)
-up-last t (suc zero) l a b c = absurd (b refl)
-up-last t (suc (suc zero)) l a b c = absurd (c refl)
-up-last t (suc (suc (suc zero))) l a b c = refl
-up-last t (suc (suc (suc (suc k)))) l a b c = absurd (omega arith)
 
 module _ (t : Tables) (z : Sized t) (r : Ready t) (p i : ℕ) (c : Record) (o : OpenAt t p i c) where
   sole-record : keep (record_bears c.number) (partition (view t) p).records ≡ c ∷ []
@@ -261,12 +246,12 @@ module _ (t : Tables) (z : Sized t) (r : Ready t) (p i : ℕ) (c : Record) (o : 
   packed-here : t ≡ pack (view t)
   packed-here = sym (ready-stored t p z r o.partition).packed
 
-  pub request-applies : (q : ℕ) → SendsTo t p c q → (y : Partition) (n : ℕ) (g : Message) (a : Change) → a ≡ exchanges_with p q y n false true g → Applies t a
+  pub request-applies : (q : ℕ) → SendsTo t p c q → (y : Partition) (n : ℕ) (g : Message) (a : Change) → a ≡ exchanges_with p q y n false (Some g) → Applies t a
   request-applies q s y n g a ha =
-      exchanged-applies t r p o.partition a q s.there y n false true g (record { some = λ k. no_true k refl })
+      exchanged-applies t r p o.partition a q s.there y n false (Some g) (record { some = λ k. no_true k refl })
       (record {
         room =
-            λ k.
+            λ x k.
             rw (set_back t.queues (q * max_partitions + p) no_queue)
             (queue-few t z p q (ready-stored t p z r o.partition) (ready-stored t q z r s.there) (queue_at t (p * max_partitions + q)) refl s.room);
       })
@@ -295,7 +280,7 @@ module _ (t : Tables) (z : Sized t) (r : Ready t) (p i : ℕ) (c : Record) (o : 
     send-down a f h = h ∙ refuses t _ TowardsDown _ _ refl (up-there ∙ f)
 
     pub send-goes : (a : Answered) → u ≡ true
-        → a ≡ stored t (accept c.number None (send (set_stage (view t) p c.number Sent) p c.partition (message_of Request c))) → a ≡ stored t (perform (view t) p c Sends)
+        → a ≡ stored t (accept c.number NoReply (send (set_stage (view t) p c.number Sent) p c.partition (message_of Request c))) → a ≡ stored t (perform (view t) p c Sends)
     unfolding perform
     send-goes a f h = h ∙ passes t _ TowardsDown _ _ (up-there ∙ f)
 
@@ -305,16 +290,11 @@ module _ (t : Tables) (z : Sized t) (r : Ready t) (p i : ℕ) (c : Record) (o : 
   stays why a h = h ∙ stay-kept why
     where
       stay-kept : (w : Refusal) → refused_with t w ≡ stored t (refuse w (view t))
-      stay-kept w = by_test (is_accepted w) (λ k. rw k (ap (λ (u : Tables). record { answer = record { refusal = w; number = 0; reply = None }; tables = u }) packed-here)) (λ k. rw k refl)
+      stay-kept w = by_test (is_accepted w) (λ k. rw k (ap (λ (u : Tables). record { answer = record { refusal = w; number = 0; reply = NoReply }; tables = u }) packed-here)) (λ k. rw k refl)
 
 -- a step that was found, by its case
-pub step-found : (x : Part) (c : Record) (s g : Next) → s ≡ g → s ≡ next x c → g ≡ next x c
-step-found x c s g e h = sym e ∙ h
-
 pub step-taken : (t : Tables) (p : ℕ) (c : Record) (s g : Next) (a : Answered) → s ≡ g → a ≡ stored t (perform (view t) p c g) → a ≡ stored t (perform (view t) p c s)
 step-taken t p c s g a e h = h ∙ ap (λ (j : Next). stored t (perform (view t) p c j)) (sym e)
-
-pub ruleset step-cases = (step-found, step-taken)
 
 pub ruleset sendings = (send-below, sends-to)
 

@@ -1,5 +1,5 @@
 -- What a change gives when it is stored, in plain variables.
-use mathlib.Core.Bool.{Bool, false, true}
+use mathlib.Core.Bool.{Bool, false}
 use mathlib.Core.List.{List, [], ◌++◌, ◌∷◌, map}
 use mathlib.Core.Path.{◌∙◌, ◌≡◌, ap, refl, sym}
 use Prim.Native.Nat.{◌*◌, ◌+◌, ◌<◌, ◌≤◌, ℕ}
@@ -12,8 +12,7 @@ use Rattle.lists.proofs.Tests.{by_test, no_true}
 use borrow.Author.Tests.{eqb-false, eqb-true}
 use Rattle.protocol.specs.Bounds.{max_messages, max_partitions}
 use Rattle.protocol.specs.declared.Message.{Message}
-use Rattle.tables.specs.View.{Sized, Stored, messages_of, no_partition, no_queue, pack, pack_backpointers, pack_entries, pack_partition, pack_queue, pack_records, partition_at, queue_at, view}
-use Rattle.tables.specs.declared.Queue.{Queue}
+use Rattle.tables.specs.View.{Sized, Stored, messages_of, no_partition, no_queue, pack, pack_backpointers, pack_entries, pack_partition, pack_queue, pack_records, partition_at, queue_at, view, Entries, Backpointers, Records, Queue}
 use Rattle.tables.specs.declared.Tables.{Tables}
 use Rattle.tables.proofs.Stored.{packed-messages, partition-stored, set-stored, stored-queue}
 use Rattle.tables.proofs.Views.{queue-view}
@@ -23,14 +22,12 @@ use Rattle.protocol.specs.Tables.{Model, change_backpointers, change_entries, ch
 use Rattle.protocol.specs.declared.Backpointer.{Backpointer}
 use Rattle.protocol.specs.declared.Entry.{Entry}
 use Rattle.protocol.specs.declared.Record.{Record}
-use Rattle.tables.specs.declared.Backpointers.{Backpointers}
-use Rattle.tables.specs.declared.Entries.{Entries}
-use Rattle.tables.specs.declared.Records.{Records}
 use Rattle.protocol.specs.Answers.{Outcome, accept}
 use Rattle.protocol.specs.declared.Refusal.{Refusal}
 use Rattle.protocol.specs.declared.Refusal.TheVariants.{Accepted}
 use Rattle.protocol.specs.declared.Reply.{Reply}
-use Rattle.protocol.specs.declared.Reply.TheVariants.{None}
+use Rattle.protocol.specs.declared.Reply.TheVariants.{None as NoReply}
+use Rattle.std.specs.Prelude.{Option, Some, None}
 use Rattle.lists.proofs.Backs.{set_back}
 use Rattle.tables.specs.declared.Partition.{Partition}
 use Rattle.answers.specs.Called.{Answered, Ready, refused_with, stored}
@@ -60,33 +57,11 @@ module _ (t : Tables) (z : Sized t) (a b : ℕ) (s : Stored t a) (r : Stored t b
   pub queue-few : length (queue (view t) a b) < max_messages → y.count < max_messages
   queue-few h = let e : y.count ≡ length (messages_of y) = ap (λ (q : Queue). q.count) (sym queue-stored) in let g : length (messages_of y) < max_messages = rw waiting h in omega (arith, e)
 
--- ---- whether a message is taken or sent
-
-pub take-some : (b : Bool) (q : Queue) → Takes b q → b ≡ true → 0 < q.count
-take-some b q f e = f.some e
-
-pub send-room : (b : Bool) (q : Queue) → Sends b q → b ≡ true → q.count < max_messages
-send-room b q f e = f.room e
-
-pub taken_yes : (b : Bool) (q r : Queue) → b ≡ true → r ≡ pack_queue (remove_at 0 (messages_of q)) → r ≡ taken_if b q
-taken_yes b q r e h = rw e h
-
-pub taken-no : (b : Bool) (q r : Queue) → b ≡ false → r ≡ q → r ≡ taken_if b q
-taken-no b q r e h = rw e h
-
-pub sent-yes : (b : Bool) (x : Message) (q r : Queue) → b ≡ true → r ≡ pack_queue (messages_of q ++ x ∷ []) → r ≡ sent_if b x q
-sent-yes b x q r e h = rw e h
-
-pub sent-no : (b : Bool) (x : Message) (q r : Queue) → b ≡ false → r ≡ q → r ≡ sent_if b x q
-sent-no b x q r e h = rw e h
-
-pub ruleset ifs = (take-some, send-room, taken_yes, taken-no, sent-yes, sent-no)
-
 -- ---- where a change is stored
 
 -- q and g are the queues that were read, r and y what was stored in their places
 pub change-stores : (t : Tables) (c : Change) (q : Queue) → q ≡ get_or t.queues (from_other c) no_queue → (r : Queue) → r ≡ taken_if c.takes q
-    → (g : Queue) → g ≡ get_or (set t.queues (from_other c) r) (to_other c) no_queue → (y : Queue) → y ≡ sent_if c.sends c.message g
+    → (g : Queue) → g ≡ get_or (set t.queues (from_other c) r) (to_other c) no_queue → (y : Queue) → y ≡ sent_if c.sends g
     → record { count = t.count; partitions = set t.partitions c.at c.partition; queues = set (set t.queues (from_other c) r) (to_other c) y } ≡ changed t c
 unfolding changed
 change-stores t c q f r h g v y w = rw (w, v, h, f) refl
@@ -139,7 +114,7 @@ module _ (t : Tables) (z : Sized t) (c : Change) (h : Applies t c) where
         pub to_room : Sends c.sends g
         to_room = rw (v, taken) h.sends
 
-        pub apply-stores : (y : Queue) → y ≡ sent_if c.sends c.message g
+        pub apply-stores : (y : Queue) → y ≡ sent_if c.sends g
             → record { answer = c.answer; tables = record { count = t.count; partitions = set t.partitions c.at c.partition; queues = set (set t.queues (from_other c) r) (to_other c) y } } ≡ applied t c
         unfolding applied
         apply-stores y w = ap (λ (u : Tables). record { answer = c.answer; tables = u }) (change-stores t c q e r f g v y w)
@@ -157,8 +132,9 @@ pub ruleset apply-change = (apply_at, apply-other, apply-gives)
 abbrev pub taken_model : Bool → Model → ℕ → ℕ → Model
 taken_model b m s r = pick b (set_queue m s r (remove_at 0 (queue m s r))) m
 
-abbrev pub sent_model : Bool → Model → ℕ → ℕ → Message → Model
-sent_model b m s r x = pick b (send m s r x) m
+abbrev pub sent_model : Option Message → Model → ℕ → ℕ → Model
+sent_model None m s r = m
+sent_model (Some x) m s r = send m s r x
 
 taken-stored : (t : Tables) (s r : ℕ) → Stored t s → Stored t r
     → record { count = t.count; partitions = t.partitions; queues = set t.queues (s * max_partitions + r) (pack_queue (remove_at 0 (messages_of (queue_at t (s * max_partitions + r))))) }
@@ -179,7 +155,7 @@ stored-as : (t u : Tables) (p : ℕ) (m : Model) → Stored t p → u ≡ pack m
 stored-as t u p m s e c = record { packed = ap (λ (w : Tables). pack (view w)) e ∙ ap pack (view-pack m) ∙ sym e; count = rw c s.count; inside = rw c s.inside }
 
 -- partition p becomes y; the booleans say whether a message from q is taken, and whether x is sent there
-module _ (t : Tables) (p q : ℕ) (hp : Stored t p) (hq : Stored t q) (b s : Bool) (x : Message) (y : Partition) (z : Part) (hz : pack_partition z ≡ y) where
+module _ (t : Tables) (p q : ℕ) (hp : Stored t p) (hq : Stored t q) (b : Bool) (s : Option Message) (y : Partition) (z : Part) (hz : pack_partition z ≡ y) where
   abbrev u : Tables
   u = record { count = t.count; partitions = t.partitions; queues = set t.queues (q * max_partitions + p) (taken_if b (get_or t.queues (q * max_partitions + p) no_queue)) }
 
@@ -201,20 +177,21 @@ module _ (t : Tables) (p q : ℕ) (hp : Stored t p) (hq : Stored t q) (b s : Boo
   after-change = set-stored u p (stored-as t u p m hp after-taking refl) y z hz ∙ ap (λ (w : Model). pack (set_partition w p z)) (ap view after-taking ∙ view-pack m)
 
   abbrev w : Tables
-  w = record { count = t.count; partitions = v.partitions; queues = set v.queues (p * max_partitions + q) (sent_if s x (get_or v.queues (p * max_partitions + q) no_queue)) }
+  w = record { count = t.count; partitions = v.partitions; queues = set v.queues (p * max_partitions + q) (sent_if s (get_or v.queues (p * max_partitions + q) no_queue)) }
 
-  after-all : w ≡ pack (sent_model s n p q x)
-  after-all =
-      by_test s
-      (λ k. rw k (sent-stored v p q (stored-as t v p n hp after-change refl) (stored-as t v q n hq after-change refl) x ∙ ap (λ (j : Model). pack (send j p q x)) (ap view after-change ∙ view-pack n)))
-      (λ k. rw k ((λ i. record { count = t.count; partitions = v.partitions; queues = set_back v.queues (p * max_partitions + q) no_queue i }) ∙ after-change))
+  after-all : w ≡ pack (sent_model s n p q)
+  after-all = go s refl
+    where
+      go : (j : Option Message) → s ≡ j → w ≡ pack (sent_model s n p q)
+      go None k = rw k ((λ i. record { count = t.count; partitions = v.partitions; queues = set_back v.queues (p * max_partitions + q) no_queue i }) ∙ after-change)
+      go (Some x) k = rw k (sent-stored v p q (stored-as t v p n hp after-change refl) (stored-as t v q n hq after-change refl) x ∙ ap (λ (j : Model). pack (send j p q x)) (ap view after-change ∙ view-pack n))
 
-  pub exchanged : (number : ℕ) (c : Change) → c ≡ exchanges_with p q y number b s x → applied t c ≡ stored t (accept number None (sent_model s n p q x))
+  pub exchanged : (number : ℕ) (c : Change) → c ≡ exchanges_with p q y number b s → applied t c ≡ stored t (accept number NoReply (sent_model s n p q))
   unfolding applied changed stored
   exchanged number c e = rw e (ap (accepted_tables number) after-all)
     where
       accepted_tables : ℕ → Tables → Answered
-      accepted_tables k j = record { answer = record { refusal = Accepted; number = k; reply = None }; tables = j }
+      accepted_tables k j = record { answer = record { refusal = Accepted; number = k; reply = NoReply }; tables = j }
 
 -- with no message
 module _ (t : Tables) (p : ℕ) (h : Stored t p) (y : Partition) where
@@ -222,12 +199,12 @@ module _ (t : Tables) (p : ℕ) (h : Stored t p) (y : Partition) where
       → applied t c ≡ stored t (accept number reply (set_partition (view t) p z))
   unfolding applied changed stored
   changed-to z hz number reply c e =
-      rw e (ap (λ (j : Tables). record { answer = record { refusal = Accepted; number = number; reply = reply }; tables = j }) (after-all t p p h h false false zero_message y z hz))
+      rw e (ap (λ (j : Tables). record { answer = record { refusal = Accepted; number = number; reply = reply }; tables = j }) (after-all t p p h h false None y z hz))
 
   pub kept-as-is : y ≡ partition_at t p → (why : Refusal) (c : Change) → c ≡ keeps_with p y why → applied t c ≡ refused_with t why
   unfolding applied changed
   kept-as-is f why c e =
-      rw (e, f) (λ i. record { answer = record { refusal = why; number = 0; reply = None }; tables = record { count = t.count; partitions = set_back t.partitions p no_partition i; queues = set_back (set_back t.queues (p * max_partitions + p) no_queue i) (p * max_partitions + p) no_queue i } })
+      rw (e, f) (λ i. record { answer = record { refusal = why; number = 0; reply = NoReply }; tables = record { count = t.count; partitions = set_back t.partitions p no_partition i; queues = set_back (set_back t.queues (p * max_partitions + p) no_queue i) (p * max_partitions + p) no_queue i } })
 
 taken-partition : (b : Bool) (m : Model) (s r p : ℕ) → partition (taken_model b m s r) p ≡ partition m p
 unfolding partition set_queue
@@ -266,41 +243,45 @@ module _ (t : Tables) (p : ℕ) (h : Stored t p) (x : Partition) (e : x ≡ part
   records-change f l g number reply c k = changed-to t p h _ (with_records held (f held.records)) (rw (read, g) refl) number reply c k
 
   -- and messages go between it and partition q
-  module _ (q : ℕ) (hq : Stored t q) (b s : Bool) (m : Message) (number : ℕ) (c : Change) where
+  module _ (q : ℕ) (hq : Stored t q) (b : Bool) (s : Option Message) (number : ℕ) (c : Change) where
     abbrev Goal : Model → Type 0
-    Goal n = applied t c ≡ stored t (accept number None (sent_model s n p q m))
+    Goal n = applied t c ≡ stored t (accept number NoReply (sent_model s n p q))
 
-    pub records-exchange : (f : List Record → List Record) (l : Records) → l ≡ pack_records (f held.records) → c ≡ exchanges_with p q (with_own_records l) number b s m
+    pub records-exchange : (f : List Record → List Record) (l : Records) → l ≡ pack_records (f held.records) → c ≡ exchanges_with p q (with_own_records l) number b s
         → Goal (change_records (taken_model b (view t) q p) p f)
     unfolding change_records
     records-exchange f l g k =
-        exchanged t p q h hq b s m _ (with_records held (f held.records)) (rw (read, g) refl) number c k
-        ∙ ap (λ (y : Part). stored t (accept number None (sent_model s (set_partition (taken_model b (view t) q p) p (with_records y (f y.records))) p q m))) (sym (taken-partition b (view t) q p p))
+        exchanged t p q h hq b s _ (with_records held (f held.records)) (rw (read, g) refl) number c k
+        ∙ ap (λ (y : Part). stored t (accept number NoReply (sent_model s (set_partition (taken_model b (view t) q p) p (with_records y (f y.records))) p q))) (sym (taken-partition b (view t) q p p))
 
-    pub backpointers-exchange : (f : List Backpointer → List Backpointer) (l : Backpointers) → l ≡ pack_backpointers (f held.backpointers) → c ≡ exchanges_with p q (with_own_backpointers l) number b s m
+    pub backpointers-exchange : (f : List Backpointer → List Backpointer) (l : Backpointers) → l ≡ pack_backpointers (f held.backpointers) → c ≡ exchanges_with p q (with_own_backpointers l) number b s
         → Goal (change_backpointers (taken_model b (view t) q p) p f)
     unfolding change_backpointers
     backpointers-exchange f l g k =
-        exchanged t p q h hq b s m _ (with_backpointers held (f held.backpointers)) (rw (read, g) refl) number c k
-        ∙ ap (λ (y : Part). stored t (accept number None (sent_model s (set_partition (taken_model b (view t) q p) p (with_backpointers y (f y.backpointers))) p q m))) (sym (taken-partition b (view t) q p p))
+        exchanged t p q h hq b s _ (with_backpointers held (f held.backpointers)) (rw (read, g) refl) number c k
+        ∙ ap (λ (y : Part). stored t (accept number NoReply (sent_model s (set_partition (taken_model b (view t) q p) p (with_backpointers y (f y.backpointers))) p q))) (sym (taken-partition b (view t) q p p))
 
     -- x is as it was
-    pub messages-exchange : c ≡ exchanges_with p q x number b s m → Goal (taken_model b (view t) q p)
+    pub messages-exchange : c ≡ exchanges_with p q x number b s → Goal (taken_model b (view t) q p)
     messages-exchange k =
-        exchanged t p q h hq b s m x held (sym read) number c k
-        ∙ ap (λ (n : Model). stored t (accept number None (sent_model s n p q m))) (ap (set_partition (taken_model b (view t) q p) p) (sym (taken-partition b (view t) q p p)) ∙ partition-back (taken_model b (view t) q p) p)
+        exchanged t p q h hq b s x held (sym read) number c k
+        ∙ ap (λ (n : Model). stored t (accept number NoReply (sent_model s n p q))) (ap (set_partition (taken_model b (view t) q p) p) (sym (taken-partition b (view t) q p p)) ∙ partition-back (taken_model b (view t) q p) p)
 
 -- ---- which changes can be stored
 
+-- no message is sent
+pub unsent : {A : Type 0} (x : Message) → None ≡ Some x → A
+unsent x k = cc
+
 module _ (t : Tables) (r : Ready t) (p : ℕ) (h : p < t.count) (c : Change) where
   pub kept-applies : (x : Partition) (why : Refusal) → c ≡ keeps_with p x why → Applies t c
-  kept-applies x why e = rw e (record { ready = r; at = h; other = h; takes = record { some = λ k. no_true k refl }; sends = record { room = λ k. no_true k refl } })
+  kept-applies x why e = rw e (record { ready = r; at = h; other = h; takes = record { some = λ k. no_true k refl }; sends = record { room = λ x k. unsent x k } })
 
   pub changed-applies : (x : Partition) (number : ℕ) (reply : Reply) → c ≡ changes_with p x number reply → Applies t c
-  changed-applies x number reply e = rw e (record { ready = r; at = h; other = h; takes = record { some = λ k. no_true k refl }; sends = record { room = λ k. no_true k refl } })
+  changed-applies x number reply e = rw e (record { ready = r; at = h; other = h; takes = record { some = λ k. no_true k refl }; sends = record { room = λ x k. unsent x k } })
 
-  pub exchanged-applies : (q : ℕ) → q < t.count → (x : Partition) (number : ℕ) (b s : Bool) (m : Message) → Takes b (queue_at t (q * max_partitions + p))
-      → Sends s (get_or (set t.queues (q * max_partitions + p) (taken_if b (queue_at t (q * max_partitions + p)))) (p * max_partitions + q) no_queue) → c ≡ exchanges_with p q x number b s m → Applies t c
-  exchanged-applies q g x number b s m f k e = rw e (record { ready = r; at = h; other = g; takes = f; sends = k })
+  pub exchanged-applies : (q : ℕ) → q < t.count → (x : Partition) (number : ℕ) (b : Bool) (s : Option Message) → Takes b (queue_at t (q * max_partitions + p))
+      → Sends s (get_or (set t.queues (q * max_partitions + p) (taken_if b (queue_at t (q * max_partitions + p)))) (p * max_partitions + q) no_queue) → c ≡ exchanges_with p q x number b s → Applies t c
+  exchanged-applies q g x number b s f k e = rw e (record { ready = r; at = h; other = g; takes = f; sends = k })
 
 pub ruleset refused-applies = (kept-as-is, kept-applies)

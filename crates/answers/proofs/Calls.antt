@@ -1,5 +1,5 @@
 -- A call that tests the order first is the event of document 01 on the tables, whatever they hold.
-use mathlib.Core.Bool.{Bool, ◌&&◌, false, true}
+use mathlib.Core.Bool.{◌&&◌, false, true}
 use mathlib.Core.Path.{◌∙◌, ◌≡◌, refl}
 use Prim.Native.Nat.{ℕ}
 use Rattle.names.specs.declared.Name.{Name}
@@ -14,8 +14,8 @@ use Rattle.protocol.specs.declared.Kind.TheVariants.{Create, Link}
 use Rattle.protocol.specs.declared.Refusal.TheVariants.{OutOfOrder}
 use Rattle.tables.specs.View.{shaped, view}
 use Rattle.tables.specs.declared.Tables.{Tables}
-use Rattle.answers.specs.Called.{Answered, called, refused_with, stored, tested}
-use Rattle.lists.proofs.Tests.{by_test}
+use Rattle.answers.specs.Called.{Answered, Ready, called, refused_with, stored, tested}
+use Rattle.lists.proofs.Tests.{and_left, and_right, by_test}
 use Rattle.answers.proofs.Ways.{test-fails, test-passes}
 
 pub tested-called : (t : Tables) (e : Event) → tests e ≡ true → tested t (bare e (view t)) ≡ called t e
@@ -33,35 +33,36 @@ module _ (t : Tables) (a : Answered) where
   unfolding bare
   create-called p d s q o h = h ∙ tested-called t (creating p d s q o) refl
 
-  module _ (b : Bool) (e : b ≡ (shaped t && in_order (view t))) where
-    pub call-fails : (v : Event) → tests v ≡ true → b ≡ false → a ≡ refused_with t OutOfOrder → a ≡ called t v
-    call-fails v k f h = test-fails t b (bare v (view t)) a e f h ∙ tested-called t v k
+  event-called : (v : Event) → tests v ≡ true → (Ready t → a ≡ stored t (bare v (view t))) → ((shaped t && in_order (view t)) ≡ false → a ≡ refused_with t OutOfOrder) → a ≡ called t v
+  event-called v k pass fail =
+      let b = shaped t && in_order (view t) in
+      by_test b
+      (λ y. test-passes t b (bare v (view t)) a refl y (pass (record { shaped = and_left _ _ y; order = and_right (shaped t) _ y })))
+      (λ n. test-fails t b (bare v (view t)) a refl n (fail n))
+      ∙ tested-called t v k
 
-    call_passes : (v : Event) → tests v ≡ true → b ≡ true → a ≡ stored t (bare v (view t)) → a ≡ called t v
-    call_passes v k f h = test-passes t b (bare v (view t)) a e f h ∙ tested-called t v k
+  pub unlink-called : (p d : ℕ) (s : Name) → (Ready t → a ≡ stored t (unlink (view t) p d s)) → ((shaped t && in_order (view t)) ≡ false → a ≡ refused_with t OutOfOrder) → a ≡ called t (unlinking p d s)
+  unfolding bare
+  unlink-called p d s = event-called (unlinking p d s) refl
 
-    pub unlink-called : (p d : ℕ) (s : Name) → b ≡ true → a ≡ stored t (unlink (view t) p d s) → a ≡ called t (unlinking p d s)
-    unfolding bare
-    unlink-called p d s f h = call_passes (unlinking p d s) refl f h
+  pub advance-called : (p n : ℕ) → (Ready t → a ≡ stored t (advance (view t) p n)) → ((shaped t && in_order (view t)) ≡ false → a ≡ refused_with t OutOfOrder) → a ≡ called t (advancing p n)
+  unfolding bare
+  advance-called p n = event-called (advancing p n) refl
 
-    pub advance-called : (p n : ℕ) → b ≡ true → a ≡ stored t (advance (view t) p n) → a ≡ called t (advancing p n)
-    unfolding bare
-    advance-called p n f h = call_passes (advancing p n) refl f h
+  pub deliver-called : (s r : ℕ) → (Ready t → a ≡ stored t (deliver (view t) s r)) → ((shaped t && in_order (view t)) ≡ false → a ≡ refused_with t OutOfOrder) → a ≡ called t (delivering s r)
+  unfolding bare
+  deliver-called s r = event-called (delivering s r) refl
 
-    pub deliver-called : (s r : ℕ) → b ≡ true → a ≡ stored t (deliver (view t) s r) → a ≡ called t (delivering s r)
-    unfolding bare
-    deliver-called s r f h = call_passes (delivering s r) refl f h
+  pub cut-called : (p q : ℕ) → (Ready t → a ≡ stored t (cut (view t) p q)) → ((shaped t && in_order (view t)) ≡ false → a ≡ refused_with t OutOfOrder) → a ≡ called t (cutting p q)
+  unfolding bare
+  cut-called p q = event-called (cutting p q) refl
 
-    pub cut-called : (p q : ℕ) → b ≡ true → a ≡ stored t (cut (view t) p q) → a ≡ called t (cutting p q)
-    unfolding bare
-    cut-called p q f h = call_passes (cutting p q) refl f h
+  pub crash-called : (p : ℕ) → (Ready t → a ≡ stored t (crash (view t) p)) → ((shaped t && in_order (view t)) ≡ false → a ≡ refused_with t OutOfOrder) → a ≡ called t (crashing p)
+  unfolding bare
+  crash-called p = event-called (crashing p) refl
 
-    pub crash-called : (p : ℕ) → b ≡ true → a ≡ stored t (crash (view t) p) → a ≡ called t (crashing p)
-    unfolding bare
-    crash-called p f h = call_passes (crashing p) refl f h
+  pub recover-called : (p : ℕ) → (Ready t → a ≡ stored t (recover (view t) p)) → ((shaped t && in_order (view t)) ≡ false → a ≡ refused_with t OutOfOrder) → a ≡ called t (recovering p)
+  unfolding bare
+  recover-called p = event-called (recovering p) refl
 
-    pub recover-called : (p : ℕ) → b ≡ true → a ≡ stored t (recover (view t) p) → a ≡ called t (recovering p)
-    unfolding bare
-    recover-called p f h = call_passes (recovering p) refl f h
-
-pub ruleset calls = (link-called, create-called, call-fails, unlink-called, advance-called, deliver-called, cut-called, crash-called, recover-called)
+pub ruleset calls = (link-called, create-called, unlink-called, advance-called, deliver-called, cut-called, crash-called, recover-called)

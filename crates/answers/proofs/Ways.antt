@@ -8,7 +8,7 @@ use lib.ListN.{length}
 use lib.Seq.{length-take-le}
 use borrow.Author.Tests.{leb-true, lt-ltb, ltb-true}
 use Rattle.protocol.specs.Answers.{Outcome, accept, check}
-use Rattle.protocol.specs.Bounds.{max_backpointers, max_entries, max_partitions, max_records}
+use Rattle.protocol.specs.Bounds.{max_entries, max_partitions, max_records}
 use Rattle.protocol.specs.Elements.{is_accepted}
 use Rattle.protocol.specs.Order.{o1, in_order}
 use Rattle.protocol.specs.Tables.{Model, is_partition, partition, partition_count, Partition as Part}
@@ -73,9 +73,6 @@ module _ (t : Tables) (p : ℕ) (z : Sized t) (r : Ready t) (h : p < t.count) (x
 
   pub read-entries : x.entries.count ≤ max_entries
   read-entries = read-ranged.entries
-
-  pub read-backpointers : x.backpointers.count ≤ max_backpointers
-  read-backpointers = read-ranged.backpointers
 
   pub read-records : x.records.count ≤ max_records
   read-records = read-ranged.records

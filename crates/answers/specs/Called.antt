@@ -30,8 +30,11 @@ pub record Ready (t : Tables) : Type 0 where
   pub shaped : shaped t ≡ true
   pub order : in_order (view t) ≡ true
 
+abbrev pub refusal_with : Refusal → Answer
+refusal_with why = record { refusal = why; number = 0; reply = None }
+
 abbrev pub refused_with : Tables → Refusal → Answered
-refused_with t why = record { answer = record { refusal = why; number = 0; reply = None }; tables = t }
+refused_with t why = record { answer = refusal_with why; tables = t }
 
 abbrev pub acceptance : ℕ → Reply → Answer
 acceptance n reply = record { refusal = Accepted; number = n; reply = reply }

@@ -2,13 +2,13 @@
 #![tactic(auto)]
 
 ghost use Rattle.std.specs.Prelude.{◌≡◌, ◌<◌, ltb};
-ghost use Rattle.answers.specs.Called.{acceptance, accepted_with, refused_with};
+ghost use Rattle.answers.specs.Called.{acceptance, accepted_with, refusal_with, refused_with};
 
 use protocol::{Answer, Refusal, Reply};
 use tables::Tables;
 
 pub mod changes;
-pub mod queues;
+pub mod here;
 
 // What a call answers, and the tables after it.
 #[derive(Clone, Copy)]
@@ -17,7 +17,7 @@ pub struct Answered {
     pub tables: Tables,
 }
 
-// A number that is in range, as the tables hold it.
+// A number that is in range, as the tables hold it: what is asked is that it is, so there is nothing that `TryFrom` could refuse.
 pub fn small(x: u32) -> u8
     requires { x < 256 }
     ensures { result ≡ x }
@@ -32,18 +32,23 @@ pub fn is_there(n: usize, p: u32) -> bool
     (p as usize) < n
 }
 
-pub fn refused(t: Tables, why: Refusal) -> Answered
-    ensures { result ≡ refused_with t why }
+// The answer of a call that is refused.
+pub fn refusing(refusal: Refusal) -> Answer
+    ensures { result ≡ refusal_with refusal }
 {
-    let reply = Reply::None;
-    let answer = Answer {
-        refusal: why,
+    Answer {
+        refusal,
         number: 0,
-        reply: reply,
-    };
+        reply: Reply::None,
+    }
+}
+
+pub fn refused(tables: Tables, why: Refusal) -> Answered
+    ensures { result ≡ refused_with tables why }
+{
     Answered {
-        answer: answer,
-        tables: t,
+        answer: refusing(why),
+        tables,
     }
 }
 
@@ -51,20 +56,18 @@ pub fn refused(t: Tables, why: Refusal) -> Answered
 pub fn accepting(number: u32, reply: Reply) -> Answer
     ensures { result ≡ acceptance number reply }
 {
-    let refusal = Refusal::Accepted;
     Answer {
-        refusal: refusal,
-        number: number,
-        reply: reply,
+        refusal: Refusal::Accepted,
+        number,
+        reply,
     }
 }
 
-pub fn accepted(t: Tables, number: u32, reply: Reply) -> Answered
-    ensures { result ≡ accepted_with t number reply }
+pub fn accepted(tables: Tables, number: u32, reply: Reply) -> Answered
+    ensures { result ≡ accepted_with tables number reply }
 {
-    let answer = accepting(number, reply);
     Answered {
-        answer: answer,
-        tables: t,
+        answer: accepting(number, reply),
+        tables,
     }
 }

@@ -9,7 +9,7 @@ use lib.Dec.{ltb}
 use lib.ListN.{get_or, length}
 use lib.Seq.{set-set}
 use borrow.Author.Tests.{le-ltb, lt-ltb, ltb-true}
-use Rattle.lists.specs.Lists.{is_none, keep}
+use Rattle.lists.specs.Lists.{every, is_none, keep}
 use Rattle.names.specs.Names.{good_name}
 use Rattle.names.specs.declared.Name.{Name}
 use Rattle.protocol.specs.Ask.{ask, ask_tables, asked, open_ask}
@@ -21,42 +21,41 @@ use Rattle.protocol.specs.declared.Kind.{Kind}
 use Rattle.protocol.specs.declared.Record.{Record}
 use Rattle.protocol.specs.declared.Refusal.TheVariants.{BadName, Down, EntriesFull, LogFull, NameExists, NumbersSpent, OutOfRange}
 use Rattle.protocol.specs.declared.Reply.TheVariants.{None}
-use Rattle.tables.specs.View.{Sized, Stored, entries_of, pack_partition, pack_records, partition_at, records_of, view, view_partition}
+use Rattle.tables.specs.View.{Sized, Stored, entries_of, pack_partition, pack_records, partition_at, records_of, view, view_partition, Records}
 use Rattle.tables.specs.declared.Partition.{Partition}
-use Rattle.tables.specs.declared.Records.{Records}
 use Rattle.tables.specs.declared.Tables.{Tables}
 use Rattle.answers.specs.Called.{Ready, refused_with, stored}
 use Rattle.answers.specs.Change.{applied, changes_with}
 use Rattle.answers.specs.declared.Answered.{Answered}
 use Rattle.answers.specs.declared.changes.Change.{Change}
-use Rattle.asks.specs.Asked.{Opens, Placed, ask_in_range}
-use Rattle.lists.proofs.Tests.{and_left, and_right, every-at}
+use Rattle.asks.specs.Asked.{Opens, Placed}
+use Rattle.lists.proofs.Tests.{both_true, every-at}
 use Rattle.protocol.proofs.Look.{part_same}
 use Rattle.tables.proofs.Stored.{partition-stored, records-stored}
 use Rattle.answers.proofs.Applied.{changed-to}
-use Rattle.answers.proofs.Ways.{passes, read_count, read_up, read_view, ready-count, ready-stored, ready-test, ready-view, refuses}
+use Rattle.answers.proofs.Ways.{passes, read_count, read_up, read_view, ready-count, ready-stored, ready-test, ready-there, ready-view, refuses}
 
 module _ (t : Tables) (z : Sized t) (r : Ready t) (k : Kind) (p d : ℕ) (s : Name) (q o : ℕ) where
   -- ---- by the arguments
 
-  module _ (b : Bool) (e : b ≡ ask_in_range t.count p d q o) where
-    same : b ≡ (is_partition (view t) p && in_range (view t) d q o)
+  module _ (h : p < t.count) (b : Bool) (e : b ≡ every (is_directory d ∷ ltb q t.count ∷ is_object o ∷ [])) where
+    same : b ≡ in_range (view t) d q o
     unfolding in_range
     same = e ∙ rw (ready-view t z r) refl
 
     pub ask-unplaced : (a : Answered) → b ≡ false → a ≡ refused_with t OutOfRange → a ≡ stored t (ask k (view t) p d s q o)
     unfolding ask
-    ask-unplaced a f h = h ∙ refuses t _ OutOfRange _ _ refl (sym same ∙ f)
+    ask-unplaced a f w = w ∙ refuses t _ OutOfRange _ _ refl (rw (ready-there t p z r h) (sym same ∙ f))
 
-    pub ask-placed : b ≡ true → Placed t p d q o
-    ask-placed y =
-        let rest : (i : ℕ) → get_or (is_directory d ∷ ltb q t.count ∷ is_object o ∷ []) i true ≡ true = λ i. every-at _ (and_right (ltb p t.count) _ (sym e ∙ y)) i in
-        let a : p < t.count = ltb-true _ _ (and_left _ _ (sym e ∙ y)) in
-        let f = ready-count t z r in
-        let g = ltb-true d directories (rest 0) in
-        let h = ltb-true q t.count (rest 1) in
-        let j = ltb-true o objects (rest 2) in
-        record { partition = a; four = omega arith; directory = omega arith; owner = omega arith; object = omega arith; test = sym same ∙ y }
+  pub ask-placed : (b : Bool) → b ≡ every (is_directory d ∷ ltb q t.count ∷ is_object o ∷ []) → b ≡ true → Placed t d q o
+  unfolding in_range
+  ask-placed b e y =
+      let rest : (i : ℕ) → get_or (is_directory d ∷ ltb q t.count ∷ is_object o ∷ []) i true ≡ true = λ i. every-at _ (sym e ∙ y) i in
+      let f = ready-count t z r in
+      let g = ltb-true d directories (rest 0) in
+      let h = ltb-true q t.count (rest 1) in
+      let j = ltb-true o objects (rest 2) in
+      record { directory = omega arith; owner = omega arith; object = omega arith; test = rw (ready-view t z r) (sym e ∙ y) }
 
   -- partition p is not there, by the test that was made
   pub ask-not-there : (a : Answered) (b : Bool) → b ≡ ltb p t.count → b ≡ false → a ≡ refused_with t OutOfRange → a ≡ stored t (ask k (view t) p d s q o)
@@ -65,19 +64,22 @@ module _ (t : Tables) (z : Sized t) (r : Ready t) (k : Kind) (p d : ℕ) (s : Na
 
 pub ruleset asks = (ask-unplaced, ask-placed)
 
-module _ (t : Tables) (z : Sized t) (r : Ready t) (k : Kind) (p d : ℕ) (s : Name) (q o : ℕ) (y : Placed t p d q o) where
+module _ (t : Tables) (z : Sized t) (r : Ready t) (k : Kind) (p d : ℕ) (s : Name) (q o : ℕ) (h : p < t.count) (y : Placed t d q o) where
+  there : (is_partition (view t) p && in_range (view t) d q o) ≡ true
+  there = both_true (ready-there t p z r h) y.test
+
   pub ask-misnamed : (a : Answered) (c : Bool) → c ≡ good_name s → c ≡ false → a ≡ refused_with t BadName → a ≡ stored t (ask k (view t) p d s q o)
   unfolding ask
-  ask-misnamed a c g f h = h ∙ refuses t _ BadName _ _ refl (sym g ∙ f) ∙ passes t _ OutOfRange _ _ y.test
+  ask-misnamed a c g f v = v ∙ refuses t _ BadName _ _ refl (sym g ∙ f) ∙ passes t _ OutOfRange _ _ there
 
   module _ (a : Answered) (c : Bool) (g : c ≡ good_name s) (n : c ≡ true) (x : Partition) (w : x ≡ partition_at t p) where
     pub ask-down : x.up ≡ false → a ≡ refused_with t Down → a ≡ stored t (ask k (view t) p d s q o)
     unfolding ask
-    ask-down u h = h ∙ refuses t _ Down _ _ refl (read_up t p z r y.partition x w ∙ u) ∙ passes t _ BadName _ _ (sym g ∙ n) ∙ passes t _ OutOfRange _ _ y.test
+    ask-down u v = v ∙ refuses t _ Down _ _ refl (read_up t p z r h x w ∙ u) ∙ passes t _ BadName _ _ (sym g ∙ n) ∙ passes t _ OutOfRange _ _ there
 
-    pub ask-goes : x.up ≡ true → (d' q' o' : ℕ) → d' ≡ d → q' ≡ q → o' ≡ o → a ≡ stored t (ask_tables k (view t) p d' s q' o') → a ≡ stored t (ask k (view t) p d s q o)
+    pub ask-goes : x.up ≡ true → a ≡ stored t (ask_tables k (view t) p d s q o) → a ≡ stored t (ask k (view t) p d s q o)
     unfolding ask
-    ask-goes u d' q' o' i j l h = (rw (i, j, l) at h) ∙ passes t _ Down _ _ (read_up t p z r y.partition x w ∙ u) ∙ passes t _ BadName _ _ (sym g ∙ n) ∙ passes t _ OutOfRange _ _ y.test
+    ask-goes u v = v ∙ passes t _ Down _ _ (read_up t p z r h x w ∙ u) ∙ passes t _ BadName _ _ (sym g ∙ n) ∙ passes t _ OutOfRange _ _ there
 
 pub ruleset askplaces = (ask-misnamed, ask-down, ask-goes)
 

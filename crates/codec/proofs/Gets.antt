@@ -1,14 +1,13 @@
--- Numbers and runs of bytes at a place.
-use mathlib.Core.List.{List, [], ◌++◌, ◌∷◌}
-use mathlib.Core.Path.{◌≡◌, subst}
-use Prim.Native.Nat.{◌*◌, ◌+◌, ◌-◌, ◌<◌, ◌≤◌, suc, ℕ}
+-- Numbers at a place.
+use mathlib.Core.List.{List, [], ◌∷◌}
+use mathlib.Core.Path.{◌∙◌, ◌≡◌, ap, refl}
+use Prim.Native.Nat.{◌*◌, ◌+◌, ◌<◌, ◌≤◌, suc, ℕ}
 use native.Mathlib.Numerals.{add-one}
 use native.Mathlib.Omega.{arith}
-use lib.ListN.{drop, get_or, length, length-drop, replicate, set, take}
-use lib.Seq.{drop-cons, get_or-drop, length-take-le, take-suc}
-use Rattle.lists.specs.Lists.{pad}
+use lib.ListN.{drop, get_or, length}
+use lib.Seq.{drop-cons}
+use Rattle.std.specs.Int.{from_be_bytes, w32}
 use Rattle.codec.specs.Codec.{after, get1, get2, get4, got}
-use Rattle.lists.proofs.Fills.{set-pad}
 
 module _ (s : List ℕ) (at : ℕ) where
   pub get1-at : at < length s → get1 (drop at s) ≡ got (get_or s at 0) (drop (at + 1) s)
@@ -27,24 +26,18 @@ module _ (s : List ℕ) (at : ℕ) where
       let e : at + 2 + 2 ≡ at + 4 = omega arith in
       rw (p, q, e)
 
-  pub run-turn : (N i : ℕ) → i < N → at + i < length s → set (pad N 0 (take i (drop at s))) i (get_or s (at + i) 0) ≡ pad N 0 (take (i + 1) (drop at s))
-  run-turn N i h g =
-      let d = drop at s in
-      let m : length d ≡ _ = length-drop at s in
-      let j : i < length d = omega (arith, m) in
-      let e : length (take i d) ≡ i = length-take-le i d (omega arith) in
-      rw (add-one i, take-suc d i 0 j, ← get_or-drop at s i 0)
-      (subst (λ (k : ℕ). set (pad N 0 (take i d)) k (get_or d i 0) ≡ pad N 0 (take i d ++ (get_or d i 0 ∷ []))) e (set-pad N 0 (take i d) (get_or d i 0) (omega arith)))
+-- the numbers that the library makes of bytes
+module _ (s : List ℕ) (at n : ℕ) where
+  pub get4-be : at + 4 ≤ length s → n ≡ from_be_bytes w32 (get_or s at 0 ∷ get_or s (at + 1) 0 ∷ get_or s (at + 2) 0 ∷ get_or s (at + 3) 0 ∷ []) → get4 (drop at s) ≡ got n (drop (at + 4) s)
+  get4-be h e =
+      let a = get_or s at 0 in
+      let b = get_or s (at + 1) 0 in
+      let c = get_or s (at + 2) 0 in
+      let d = get_or s (at + 3) 0 in
+      let k : at + 3 ≡ at + 2 + 1 = omega arith in
+      let p = get2-at s at a b (omega arith) refl refl in
+      let q = get2-at s (at + 2) c d (omega arith) refl (ap (λ (i : ℕ). get_or s i 0) k) in
+      let j : (a * 256 + b) * 65536 + (c * 256 + d) ≡ n = omega (arith, e) in
+      get4-at s at (a * 256 + b) (c * 256 + d) p q ∙ ap (λ (m : ℕ). got m (drop (at + 4) s)) j
 
-  module _ (N : ℕ) (bytes : List ℕ) (i : ℕ) (e : bytes ≡ pad N 0 (take i (drop at s))) where
-    pub run-next : i < N → at + i < length s → set bytes i (get_or s (at + i) 0) ≡ pad N 0 (take (i + 1) (drop at s))
-    run-next h g = rw e (run-turn N i h g)
-
-    pub run_end : (n : ℕ) → i ≤ n → n ≤ i → bytes ≡ pad N 0 (take n (drop at s))
-    run_end n h g = let k : i ≡ n = omega arith in rw (← k) e
-
-pub run-start : (N : ℕ) → replicate {A = ℕ} N 0 ≡ pad N 0 []
-unfolding pad
-run-start N = let e : N - 0 ≡ N = omega arith in rw e
-
-pub ruleset gets = (run-start, get1-at, get2-at, get4-at, run-next, run_end)
+pub ruleset gets = (get1-at, get2-at, get4-be)

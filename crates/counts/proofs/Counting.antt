@@ -6,7 +6,7 @@ use native.Mathlib.Numerals.{add-one}
 use native.Mathlib.Omega.{arith}
 use lib.Dec.{eqb}
 use lib.ListN.{get_or-append, get_or-map, get_or, length, length-map, length-take, take}
-use lib.Seq.{get_or_at}
+use lib.Seq.{get_or-take, get_or_at}
 use borrow.Author.Tests.{eqb-false, eqb-true}
 use Rattle.lists.specs.Lists.{each, total}
 use Rattle.lists.proofs.Sums.{sum, total-sum}
@@ -14,12 +14,12 @@ use Rattle.lists.proofs.Tests.{by_test}
 use Rattle.protocol.specs.Bounds.{max_backpointers, max_entries, max_messages, max_partitions, max_records, queue_count}
 use Rattle.protocol.specs.Tables.{Model, Partition as Part, no_partition as no_part, partition, partition_count, queue, totals}
 use Rattle.protocol.specs.declared.Message.{Message}
-use Rattle.tables.specs.View.{Sized, messages_of, no_queue, partition_at, view, view_partition}
+use Rattle.tables.specs.View.{Sized, messages_of, no_partition, no_queue, partition_at, view, view_partition}
 use Rattle.tables.specs.declared.Partition.{Partition}
 use Rattle.tables.specs.declared.Tables.{Tables}
 use Rattle.tables.proofs.Views.{partition-there, queues-view}
 use Rattle.rehearsal.specs.Answers.{row, rows, square_of}
-use Rattle.counts.specs.Counts.{Small, Sums, length_at, lengths, lengths_from, no_sums, partition_sums, plus_partition, sums_of}
+use Rattle.counts.specs.Counts.{Small, Sums, length_at, lengths, lengths_from, plus_partition, sums_of}
 use Rattle.rehearsal.specs.Rehearsal.{square}
 use Rattle.texts.proofs.Squares.{each-length}
 
@@ -68,24 +68,33 @@ module _ (t : Tables) where
   records_at i = min (partition_at t i).records.count max_records
 
   -- the first i partitions are in the sums
-  pub record Summing (x : Sums) (i : ℕ) : Type 0 where
-    pub so_far : x ≡ record { entries = sum i entries_at; backpointers = sum i backpointers_at; records = sum i records_at; messages = 0 }
+  pub record Summing (n : ℕ) (x : Sums) (i : ℕ) : Type 0 where
+    pub so_far : x ≡ record { entries = sum i entries_at; backpointers = sum i backpointers_at; records = sum i records_at; messages = n }
 
-  pub sum-start : (x : Sums) → x ≡ no_sums → Summing x 0
+  pub sum-start : (n : ℕ) → Summing n (record { entries = 0; backpointers = 0; records = 0; messages = n }) 0
   unfolding sum
-  sum-start x e = record { so_far = e }
+  sum-start n = record { so_far = refl }
 
-  module _ (x : Sums) (i : ℕ) (w : Summing x i) where
-    pub sum-small : (side : ℕ) → i < side → side ≤ max_partitions → Small x
-    sum-small side h g =
+  -- the partitions that there are: the first k
+  module _ (n : ℕ) (x : Sums) (i : ℕ) (w : Summing n x i) (k : ℕ) (e : k ≡ min t.count max_partitions) (h : i < length (take k t.partitions)) where
+    abbrev there : Partition
+    there = get_or (take k t.partitions) i no_partition
+
+    below : i < k
+    below = omega (arith, length-take k t.partitions)
+
+    pub sum-small : Small x
+    sum-small =
+        let l = below in
         let a = sum-most i max_entries entries_at (λ k. min-most _ max_entries) in
         let b = sum-most i max_backpointers backpointers_at (λ k. min-most _ max_backpointers) in
         let c = sum-most i max_records records_at (λ k. min-most _ max_records) in
         rw w.so_far (record { entries = omega arith; backpointers = omega arith; records = omega arith })
 
-    pub sum-turn : (p : Partition) (y : Sums) → p ≡ partition_at t i → y ≡ plus_partition x p → Summing y (i + 1)
-    sum-turn p y ep e =
-        record { so_far = e ∙ rw (ep, w.so_far, sum_more i entries_at, sum_more i backpointers_at, sum_more i records_at) refl }
+    pub sum-turn : (y : Sums) → y ≡ plus_partition x there → Summing n y (i + 1)
+    sum-turn y f =
+        let p : there ≡ partition_at t i = get_or-take k t.partitions i no_partition below in
+        record { so_far = f ∙ rw (p, w.so_far, sum_more i entries_at, sum_more i backpointers_at, sum_more i records_at) refl }
 
   -- a count of each partition that is there, summed
   module _ (z : Sized t) (f : Part → ℕ) (none : f no_part ≡ 0) (g : ℕ → ℕ) where
@@ -98,17 +107,17 @@ module _ (t : Tables) where
         (λ i l. sym (ap f (partition-there t i (omega arith)) ∙ h i (omega arith) (omega arith)))
         ∙ total-sum f no_part none (view t).partitions (min t.count max_partitions) (omega arith)
 
-  pub sum_done : (x : Sums) (i side : ℕ) → Summing x i → Sized t → i ≤ side → side ≤ i → side ≡ min t.count max_partitions
-      → x ≡ partition_sums (view t)
+  pub sum_done : (n : ℕ) (x : Sums) (i : ℕ) → Summing n x i → Sized t → (k : ℕ) → k ≡ min t.count max_partitions
+      → i ≤ length (take k t.partitions) → length (take k t.partitions) ≤ i → n ≡ (totals (view t)).messages → x ≡ sums_of (totals (view t))
   unfolding no_part
-  sum_done x i side w z h g e =
-      let q : i ≡ min t.count max_partitions = omega arith in
+  sum_done n x i w z k e h g m =
+      let q : i ≡ min t.count max_partitions = omega (arith, length-take k t.partitions, z.partitions) in
       let a = total-is z (λ (p : Part). length p.entries) refl entries_at (λ k l b. counted _ max_entries _ (z.partition k b).entries) in
       let b =
       total-is z (λ (p : Part). length p.backpointers) refl backpointers_at (λ k l b. counted _ max_backpointers _ (z.partition k b).backpointers)
       in
       let c = total-is z (λ (p : Part). length p.records) refl records_at (λ k l b. counted _ max_records _ (z.partition k b).records) in
-      w.so_far ∙ rw q (λ j. record { entries = a j; backpointers = b j; records = c j; messages = 0 })
+      w.so_far ∙ rw q (λ j. record { entries = a j; backpointers = b j; records = c j; messages = m j })
 
   -- ---- `messages_in`
 
@@ -136,11 +145,6 @@ module _ (t : Tables) where
 pub ruleset summing = (sum-start, sum-small, sum-turn, sum_done)
 
 pub ruleset mailing = (mail-start, mail-turn, mail-done)
-
--- `totals_of`
-pub totals-are : (m : Model) (x : Sums) (n : ℕ) → x ≡ partition_sums m → n ≡ (totals m).messages
-    → record { entries = x.entries; backpointers = x.backpointers; records = x.records; messages = n } ≡ sums_of (totals m)
-totals-are m x n ex en = rw (ex, en) refl
 
 -- ---- the square
 

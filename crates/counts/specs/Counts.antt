@@ -2,7 +2,7 @@
 use Rattle.std.specs.Prelude.{List, [], ◌∷◌, ◌*◌, ◌+◌, ◌≤◌, min, ℕ, length}
 use Rattle.lists.specs.Lists.{each}
 use Rattle.protocol.specs.Bounds.{max_backpointers, max_entries, max_messages, max_partitions, max_records}
-use Rattle.protocol.specs.Tables.{Model, Totals, queue, totals}
+use Rattle.protocol.specs.Tables.{Model, Totals, queue}
 use Rattle.tables.specs.View.{queue_at}
 use Rattle.tables.specs.declared.Partition.{Partition}
 use Rattle.tables.specs.declared.Tables.{Tables}
@@ -12,14 +12,6 @@ pub use Rattle.counts.specs.declared.Sums.{Sums}
 -- "entries, back-pointers, records, messages over all"
 abbrev pub sums_of : Totals → Sums
 sums_of x = record { entries = x.entries; backpointers = x.backpointers; records = x.records; messages = x.messages }
-
--- the same of the partitions alone
-abbrev pub partition_sums : Model → Sums
-partition_sums m =
-    record { entries = (totals m).entries; backpointers = (totals m).backpointers; records = (totals m).records; messages = 0 }
-
-abbrev pub no_sums : Sums
-no_sums = record { entries = 0; backpointers = 0; records = 0; messages = 0 }
 
 -- "the queue lengths as a square, one row for each sender", of partitions that are not there too
 unfoldable pub lengths : Model → List (List ℕ)

@@ -1,41 +1,36 @@
 -- Each way through a mark and through a record.
-use mathlib.Core.Bool.{Bool, ◌&&◌, false, true}
+use mathlib.Core.Bool.{Bool, ◌&&◌, and-false, and-true, false, true}
 use mathlib.Core.List.{List, [], ◌∷◌}
-use mathlib.Core.Path.{◌∙◌, ◌≡◌, refl, sym}
-use Prim.Native.Nat.{◌+◌, ◌-◌, ◌<◌, ◌≤◌, suc, ℕ}
-use native.Mathlib.Numerals.{add-one}
+use mathlib.Core.Path.{◌∙◌, ◌≡◌, ap, refl, sym}
+use Prim.Native.Nat.{ℕ}
 use native.Mathlib.Omega.{arith}
 use lib.Dec.{eqb}
-use lib.ListN.{drop, get_or, length, length-drop}
-use lib.Seq.{drop-cons}
-use borrow.Author.Tests.{eq-eqb, ne_eqb}
+use lib.ListN.{drop, get_or, length}
+use borrow.Author.Tests.{eq-eqb, eqb-true, ne_eqb}
+use Rattle.std.specs.List.{starts_with}
+use Rattle.lists.proofs.Tests.{by_test}
 use Rattle.protocol.specs.declared.Refusal.{Refusal}
 use Rattle.protocol.specs.declared.Refusal.TheVariants.{EndsEarly, FieldOutOfRange}
 use Rattle.codec.specs.Codec.{bad, got, none}
 use Rattle.picture.specs.Rows.{Row, begins, body, fail, judged, more}
 
 -- ---- the mark
-module _ (s : List ℕ) (at x y : ℕ) where
-  pub begins-short : length s - at < 2 → false ≡ begins x y (drop at s)
-  unfolding begins
-  begins-short h = few (drop at s) (omega (arith, length-drop at s))
-    where
-      few : (l : List ℕ) → length l < 2 → false ≡ begins x y l
-      few [] g = refl
-      few (a ∷ []) g = refl
-      few (a ∷ b ∷ l) g = absurd (omega arith)
 
-  split : at + 1 < length s → begins x y (drop at s) ≡ (eqb (get_or s at 0) x && eqb (get_or s (at + 1) 0) y)
-  unfolding begins
-  split h = rw (add-one at, drop-cons s at 0 (omega arith), drop-cons s (suc at) 0 (omega arith))
+eqb-turned : (a b : ℕ) → eqb a b ≡ eqb b a
+eqb-turned a b = by_test (eqb a b) (λ t. t ∙ sym (eq-eqb b a (sym (eqb-true a b t)))) (λ f. f ∙ sym (ne_eqb b a (λ e. absurd (no e f))))
+  where
+    no : b ≡ a → eqb a b ≡ false → ⊥
+    no e f = let t : true ≡ false = sym (eq-eqb a b (sym e)) ∙ f in cc
 
-  pub begins-first : 2 ≤ length s - at → get_or s at 0 ≡ x → eqb (get_or s (at + 1) 0) y ≡ begins x y (drop at s)
-  begins-first h e = sym (split (omega arith) ∙ rw (eq-eqb _ _ e))
-
-  pub begins-not : 2 ≤ length s - at → (get_or s at 0 ≡ x → ⊥) → false ≡ begins x y (drop at s)
-  begins-not h e = sym (split (omega arith) ∙ rw (ne_eqb _ _ e))
-
-pub ruleset marks = (begins-short, begins-first, begins-not)
+-- a slice that starts with two bytes
+pub mark-starts : (s mark : List ℕ) → length mark ≡ 2 → starts_with eqb s mark ≡ begins (get_or mark 0 0) (get_or mark 1 0) s
+unfolding begins
+mark-starts s [] h = absurd (omega arith)
+mark-starts s (x ∷ []) h = absurd (omega arith)
+mark-starts s (x ∷ y ∷ z ∷ m) h = absurd (omega arith)
+mark-starts [] (x ∷ y ∷ []) h = refl
+mark-starts (a ∷ []) (x ∷ y ∷ []) h = and-false (eqb x a)
+mark-starts (a ∷ b ∷ s) (x ∷ y ∷ []) h = rw (eqb-turned x a, eqb-turned y b) (ap (λ (k : Bool). eqb a x && k) (and-true (eqb b y)))
 
 -- ---- a record
 module _ {A : Type 0} (w : Row A) where

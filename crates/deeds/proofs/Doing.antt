@@ -1,16 +1,11 @@
 -- A change of one partition is what its command does.
 use mathlib.Core.Bool.{Bool, ◌&&◌, false, true}
-use mathlib.Core.List.{[], ◌∷◌}
-use mathlib.Core.Path.{◌∙◌, ◌≡◌, ap, ap₂, refl, subst, sym}
-use Prim.Native.Nat.{◌*◌, ◌+◌, ◌<◌, ◌≤◌, ℕ}
-use native.Mathlib.Omega.{arith}
+use mathlib.Core.Path.{◌∙◌, ◌≡◌, ap, refl, subst}
 use lib.Dec.{ltb}
-use borrow.Author.Tests.{le-ltb, lt-ltb}
-use Rattle.lists.proofs.Tests.{no_true}
+use Prim.Native.Nat.{ℕ}
 use Rattle.protocol.specs.Advance.{advance}
 use Rattle.protocol.specs.Answers.{Outcome}
 use Rattle.protocol.specs.Ask.{ask, unlink}
-use Rattle.protocol.specs.Bounds.{max_partitions}
 use Rattle.protocol.specs.Deliver.{deliver}
 use Rattle.protocol.specs.Events.{advancing, crashing, creating, cutting, delivering, Event, linking, recovering, unlinking, bare, tests}
 use Rattle.protocol.specs.Faults.{crash, cut, recover}
@@ -19,9 +14,8 @@ use Rattle.protocol.specs.declared.Kind.TheVariants.{Create as CreateKind, Link 
 use Rattle.protocol.specs.declared.Refusal.{Refusal}
 use Rattle.protocol.specs.declared.Refusal.TheVariants.{OutOfRange}
 use Rattle.protocol.specs.declared.Reply.TheVariants.{None}
-use Rattle.tables.specs.View.{Sized, pack, partition_at, queue_at, view}
+use Rattle.tables.specs.View.{Sized, pack, partition_at, view}
 use Rattle.tables.specs.declared.Partition.{Partition}
-use Rattle.tables.specs.declared.Queue.{Queue}
 use Rattle.tables.specs.declared.Tables.{Tables}
 use Rattle.answers.specs.Called.{Ready, accepted_with, called, refused_with, stored, tested}
 use Rattle.answers.specs.Change.{Applies, applied, keeps_with}
@@ -39,34 +33,13 @@ use Rattle.rehearsal.specs.declared.Command.{Command}
 use Rattle.rehearsal.specs.declared.Verb.{Verb}
 use Rattle.rehearsal.specs.declared.Verb.TheVariants.{Advance, Crash, Create, Cut, Deliver, Link, Recover, Unlink}
 use Rattle.rehearsal.specs.Rehearsal.{argument}
-use Rattle.deeds.specs.Deeds.{Changes, Deed, Does, Loses, Queued, Unknown, Way, deed_with, deed_without, fitted}
+use Rattle.deeds.specs.Deeds.{Changes, Deed, Does, Loses, Queued}
 use Rattle.faults.specs.Suffered.{suffered}
-use Rattle.faults.specs.declared.Fault.{Fault}
-use Rattle.faults.specs.declared.Fault.TheVariants.{Refused, Loses as FaultLoses}
+use Rattle.std.specs.Prelude.{Err, Ok, Result}
 use Rattle.losses.specs.Lost.{lost}
 use Rattle.losses.specs.declared.Loss.{Loss}
-use Rattle.rehearsal.specs.Answers.{stored as numbers_with}
-use Rattle.sessions.specs.Session.{after_event, responded, responded_to}
+use Rattle.sessions.specs.Session.{after_event, responded_to}
 use Rattle.sessions.specs.declared.Response.{Response}
-
--- ---- what was taken out of the tables for a command
-
-fits-there : (n : ℕ) → n < max_partitions → fitted n ≡ n
-fits-there n h = rw (lt-ltb n max_partitions h) refl
-
-module _ (n : ℕ) where
-  pub place-there : n < max_partitions → (n ≡ fitted n) × (n < max_partitions)
-  place-there h = (sym (fits-there n h), h)
-
-  pub place_none : max_partitions ≤ n → (0 ≡ fitted n) × (0 < max_partitions)
-  place_none h = (rw (le-ltb n max_partitions h) refl, omega arith)
-
-module _ (t : Tables) where
-  pub taken_own : (x : Partition) (n : ℕ) → n < max_partitions → x ≡ partition_at t (fitted n) → x ≡ partition_at t n
-  taken_own x n h e = e ∙ ap (partition_at t) (fits-there n h)
-
-  pub taken-waiting : (q : Queue) (s r : ℕ) → s < max_partitions → r < max_partitions → q ≡ queue_at t (fitted s * max_partitions + fitted r) → q ≡ queue_at t (s * max_partitions + r)
-  taken-waiting q s r h k e = e ∙ ap₂ (λ (a b : ℕ). queue_at t (a * max_partitions + b)) (fits-there s h) (fits-there r k)
 
 -- ---- what is done
 
@@ -80,164 +53,148 @@ queues-there t z x h =
       sends = to_room t z x h _ refl _ refl _ refl;
     }
 
--- ---- the three ways are three
+no_second : (a b : Bool) → b ≡ false → (a && b) ≡ false
+no_second true b f = f
+no_second false b f = refl
 
-abbrev is_change : Way → Bool
-is_change Unknown = false
-is_change Changes = true
-is_change (Loses x) = false
-
-abbrev is_loss : Way → Bool
-is_loss Unknown = false
-is_loss Changes = false
-is_loss (Loses x) = true
-
-abbrev loss_of : Loss → Way → Loss
-loss_of d Unknown = d
-loss_of d Changes = d
-loss_of d (Loses x) = x
-
-module _ {A : Type 0} (w : Way) where
-  no_change : is_change w ≡ false → w ≡ Changes → A
-  no_change e k = no_true (ap is_change k) e
-
-  no-loss : is_loss w ≡ false → (x : Loss) → w ≡ Loses x → A
-  no-loss e x k = no_true (ap is_loss k) e
-
-module _ (d : Deed) (t : Tables) where
-  pub none_done : (b : Bool) (x : Response) → d ≡ deed_without Unknown t → Does d b t x
-  none_done b x e =
-      rw e (record {
-        at = omega arith;
-        other = omega arith;
-        queued = no_change Unknown refl;
-        gives = no_change Unknown refl;
-        ready = no-loss Unknown refl;
-        sized = no-loss Unknown refl;
-        loses = λ loss k. no-loss Unknown refl loss k;
-      })
-
+module _ (t : Tables) where
   -- something is lost
-  pub loss-done : (z : Sized t) (r : Ready t) (loss : Loss) → d ≡ deed_without (Loses loss) t → Does d true t (after_event (accepted_with (pack (lost loss (view t))) 0 None))
-  loss-done z r loss e =
-      rw e (record {
-        at = omega arith;
-        other = omega arith;
-        queued = no_change (Loses loss) refl;
-        gives = no_change (Loses loss) refl;
-        ready = λ x k. r;
-        sized = λ x k. z;
-        loses = λ x k. ap (λ (w : Way). record { numbers = numbers_with (0 ∷ 0 ∷ 0 ∷ []); session = record { «open» = true; tables = pack (lost (loss_of loss w) (view t)) } }) (sym k);
-      })
+  loss-done : (z : Sized t) (r : Ready t) (loss : Loss) → Does (Loses loss) t (after_event (accepted_with (pack (lost loss (view t))) 0 None))
+  loss-done z r loss = record { fits = (r, z); gives = refl }
 
   -- the change y of an event
-  module _ (z : Sized t) (r : Ready t) (y : Change) (h : Applies t y) (f : d ≡ deed_with y) where
-    answer-done : (a : Answered) → applied t y ≡ a → Does d true t (after_event a)
+  module _ (z : Sized t) (r : Ready t) (y : Change) (h : Applies t y) where
+    answer-done : (a : Answered) → applied t y ≡ a → Does (Changes y) t (after_event a)
     unfolding applied
-    answer-done a g =
-        rw f (record {
-          at = apply_at t z y h;
-          other = apply-other t z y h;
-          queued = λ l. queues-there t z y h;
-          gives = λ l. ap after_event g;
-          ready = no-loss Changes refl;
-          sized = no-loss Changes refl;
-          loses = λ loss k. no-loss Changes refl loss k;
-        })
+    answer-done a g = record { fits = (apply_at t z y h, apply-other t z y h, queues-there t z y h); gives = ap after_event g }
 
-    pub outcome-done : (o : Outcome) → applied t y ≡ stored t o → Does d true t (after_event (tested t o))
+    outcome-done : (o : Outcome) → applied t y ≡ stored t o → Does (Changes y) t (after_event (tested t o))
     unfolding tested
     outcome-done o g = answer-done (tested t o) (g ∙ rw (r.shaped, r.order) refl)
 
-    event-done : (e : Event) → tests e ≡ true → applied t y ≡ stored t (bare e (view t)) → Does d true t (after_event (called t e))
-    event-done e k g = subst (λ (a : Answered). Does d true t (after_event a)) (tested-called t e k) (outcome-done (bare e (view t)) g)
+    event-done : (e : Event) → tests e ≡ true → applied t y ≡ stored t (bare e (view t)) → Does (Changes y) t (after_event (called t e))
+    event-done e k g = subst (λ (a : Answered). Does (Changes y) t (after_event a)) (tested-called t e k) (outcome-done (bare e (view t)) g)
 
-    pub unlink-done : (c : Command) → applied t y ≡ stored t (unlink (view t) (argument c 0) (argument c 1) c.name) → Does d true t (responded_to Unlink c t)
+    unlink-done : (c : Command) → applied t y ≡ stored t (unlink (view t) (argument c 0) (argument c 1) c.name) → Does (Changes y) t (responded_to Unlink c t)
     unfolding responded_to bare
     unlink-done c g = event-done (unlinking (argument c 0) (argument c 1) c.name) refl g
 
-    pub advance-done : (c : Command) → applied t y ≡ stored t (advance (view t) (argument c 0) (argument c 1)) → Does d true t (responded_to Advance c t)
+    advance-done : (c : Command) → applied t y ≡ stored t (advance (view t) (argument c 0) (argument c 1)) → Does (Changes y) t (responded_to Advance c t)
     unfolding responded_to bare
     advance-done c g = event-done (advancing (argument c 0) (argument c 1)) refl g
 
-    pub deliver-done : (c : Command) → applied t y ≡ stored t (deliver (view t) (argument c 0) (argument c 1)) → Does d true t (responded_to Deliver c t)
+    deliver-done : (c : Command) → applied t y ≡ stored t (deliver (view t) (argument c 0) (argument c 1)) → Does (Changes y) t (responded_to Deliver c t)
     unfolding responded_to bare
     deliver-done c g = event-done (delivering (argument c 0) (argument c 1)) refl g
 
-    pub recover-done : (c : Command) → applied t y ≡ stored t (recover (view t) (argument c 0)) → Does d true t (responded_to Recover c t)
+    recover-done : (c : Command) → applied t y ≡ stored t (recover (view t) (argument c 0)) → Does (Changes y) t (responded_to Recover c t)
     unfolding responded_to bare
     recover-done c g = event-done (recovering (argument c 0)) refl g
 
   -- what a refusal or a fault does
   module _ (z : Sized t) (r : Ready t) where
-    passed : (a : Answered) (o : Outcome) → a ≡ stored t o → Does d true t (after_event a) → Does d true t (after_event (tested t o))
+    pub refusal-done : (x : Partition) (why : Refusal) (y : Change) → x ≡ partition_at t 0 → y ≡ keeps_with 0 x why → Does (Changes y) t (after_event (refused_with t why))
+    refusal-done x why y e k = answer-done z r y (kept-applies t r 0 (ready-some t z r) y x why k) (refused_with t why) (kept-as-is t 0 (ready-stored t 0 z r (ready-some t z r)) x e why y k)
+
+  module _ (z : Sized t) (r : Ready t) (d : Deed) where
+    passed : (a : Answered) (o : Outcome) → a ≡ stored t o → Does d t (after_event a) → Does d t (after_event (tested t o))
     unfolding tested
-    passed a o g h = let e : a ≡ tested t o = g ∙ rw (r.shaped, r.order) refl in subst (λ (b : Answered). Does d true t (after_event b)) e h
+    passed a o g h = let e : a ≡ tested t o = g ∙ rw (r.shaped, r.order) refl in subst (λ (b : Answered). Does d t (after_event b)) e h
 
-    stored-done : (a : Answered) (e : Event) → tests e ≡ true → a ≡ stored t (bare e (view t)) → Does d true t (after_event a) → Does d true t (after_event (called t e))
-    stored-done a e k g h = subst (λ (b : Answered). Does d true t (after_event b)) (tested-called t e k) (passed a (bare e (view t)) g h)
-
-    pub refusal-done : (x : Partition) (why : Refusal) (y : Change) → x ≡ partition_at t 0 → y ≡ keeps_with 0 x why → d ≡ deed_with y → Does d true t (after_event (refused_with t why))
-    refusal-done x why y e k f = answer-done z r y (kept-applies t r 0 (ready-some t z r) y x why k) f (refused_with t why) (kept-as-is t 0 (ready-stored t 0 z r (ready-some t z r)) x e why y k)
+    stored-done : (a : Answered) (e : Event) → tests e ≡ true → a ≡ stored t (bare e (view t)) → Does d t (after_event a) → Does d t (after_event (called t e))
+    stored-done a e k g h = subst (λ (b : Answered). Does d t (after_event b)) (tested-called t e k) (passed a (bare e (view t)) g h)
 
     -- no partition has the number; b is the test
-    module _ (c : Command) (h : Does d true t (after_event (refused_with t OutOfRange))) (b : Bool) (f : b ≡ false) where
-      module _ (e : b ≡ ltb (argument c 0) t.count) where
-        pub ask-beyond : (k : Kind) → Does d true t (after_event (tested t (ask k (view t) (argument c 0) (argument c 1) c.name (argument c 3) (argument c 4))))
+    module _ (c : Command) (h : Does d t (after_event (refused_with t OutOfRange))) where
+      module _ (b : Bool) (f : b ≡ false) (e : b ≡ ltb (argument c 0) t.count) where
+        pub ask-beyond : (k : Kind) → Does d t (after_event (tested t (ask k (view t) (argument c 0) (argument c 1) c.name (argument c 3) (argument c 4))))
         ask-beyond k = passed _ _ (ask-not-there t z r k (argument c 0) (argument c 1) c.name (argument c 3) (argument c 4) _ b e f refl) h
 
-        pub unlink-beyond : Does d true t (responded_to Unlink c t)
+        pub unlink-beyond : Does d t (responded_to Unlink c t)
         unfolding responded_to bare
         unlink-beyond = stored-done _ (unlinking (argument c 0) (argument c 1) c.name) refl (unlink-not-there t z r (argument c 0) (argument c 1) c.name _ b e f refl) h
 
-        pub advance-beyond : Does d true t (responded_to Advance c t)
+        pub advance-beyond : Does d t (responded_to Advance c t)
         unfolding responded_to bare
         advance-beyond = stored-done _ (advancing (argument c 0) (argument c 1)) refl (advance-outside t z r (argument c 0) b e (argument c 1) _ f refl) h
 
-        pub recover-beyond : Does d true t (responded_to Recover c t)
+        pub recover-beyond : Does d t (responded_to Recover c t)
         unfolding responded_to bare
         recover-beyond = stored-done _ (recovering (argument c 0)) refl (recover-outside t z r _ (argument c 0) b e f refl) h
 
-      pub deliver-beyond : b ≡ (ltb (argument c 0) t.count && ltb (argument c 1) t.count) → Does d true t (responded_to Deliver c t)
+      deliver-beyond : (ltb (argument c 0) t.count && ltb (argument c 1) t.count) ≡ false → Does d t (responded_to Deliver c t)
       unfolding responded_to bare
-      deliver-beyond e = stored-done _ (delivering (argument c 0) (argument c 1)) refl (deliver-outside t z r (argument c 0) (argument c 1) b e _ f refl) h
+      deliver-beyond f = stored-done _ (delivering (argument c 0) (argument c 1)) refl (deliver-outside t z r (argument c 0) (argument c 1) _ refl _ f refl) h
 
-    module _ (x : Fault) where
-      pub fault-refused : (why : Refusal) → x ≡ Refused why → Does d true t (after_event (refused_with t why)) → Does d true t (after_event (suffered t x))
+      pub sender-beyond : ltb (argument c 0) t.count ≡ false → Does d t (responded_to Deliver c t)
+      sender-beyond f = deliver-beyond (ap (λ (b : Bool). b && ltb (argument c 1) t.count) f)
+
+      pub receiver-beyond : ltb (argument c 1) t.count ≡ false → Does d t (responded_to Deliver c t)
+      receiver-beyond f = deliver-beyond (no_second (ltb (argument c 0) t.count) _ f)
+
+    module _ (x : Result Loss Refusal) where
+      pub fault-refused : (why : Refusal) → x ≡ Err why → Does d t (after_event (refused_with t why)) → Does d t (after_event (suffered t x))
       fault-refused why e h = rw e h
 
-      pub fault-lost : (loss : Loss) → x ≡ FaultLoses loss → d ≡ deed_without (Loses loss) t → Does d true t (after_event (suffered t x))
-      fault-lost loss e h = rw e (loss-done z r loss h)
-
-      pub cut-done : (c : Command) → suffered t x ≡ stored t (cut (view t) (argument c 0) (argument c 1)) → Does d true t (after_event (suffered t x)) → Does d true t (responded_to Cut c t)
+      pub cut-done : (c : Command) → suffered t x ≡ stored t (cut (view t) (argument c 0) (argument c 1)) → Does d t (after_event (suffered t x)) → Does d t (responded_to Cut c t)
       unfolding responded_to bare
       cut-done c g h = stored-done (suffered t x) (cutting (argument c 0) (argument c 1)) refl g h
 
-      pub crash-done : (c : Command) → suffered t x ≡ stored t (crash (view t) (argument c 0)) → Does d true t (after_event (suffered t x)) → Does d true t (responded_to Crash c t)
+      pub crash-done : (c : Command) → suffered t x ≡ stored t (crash (view t) (argument c 0)) → Does d t (after_event (suffered t x)) → Does d t (responded_to Crash c t)
       unfolding responded_to bare
       crash-done c g h = stored-done (suffered t x) (crashing (argument c 0)) refl g h
 
+  pub fault-lost : (z : Sized t) (r : Ready t) (x : Result Loss Refusal) (loss : Loss) → x ≡ Ok loss → Does (Loses loss) t (after_event (suffered t x))
+  fault-lost z r x loss e = rw e (loss-done z r loss)
+
   -- by the verb
-  module _ (v : Verb) (c : Command) where
-    pub verb-done : (w : Verb) → v ≡ w → Does d true t (responded_to w c t) → Does d true t (responded_to v c t)
+  module _ (d : Deed) (v : Verb) (c : Command) where
+    pub verb-done : (w : Verb) → v ≡ w → Does d t (responded_to w c t) → Does d t (responded_to v c t)
     verb-done w e h = rw e h
 
     abbrev asked : Kind → Answered
     asked k = tested t (ask k (view t) (argument c 0) (argument c 1) c.name (argument c 3) (argument c 4))
 
-    pub link-done : v ≡ Link → Does d true t (after_event (asked LinkKind)) → Does d true t (responded_to v c t)
+    pub link-done : v ≡ Link → Does d t (after_event (asked LinkKind)) → Does d t (responded_to v c t)
     unfolding responded_to bare
-    link-done e h = rw e (subst (λ (a : Answered). Does d true t (after_event a)) (tested-called t (linking (argument c 0) (argument c 1) c.name (argument c 3) (argument c 4)) refl) h)
+    link-done e h = rw e (subst (λ (a : Answered). Does d t (after_event a)) (tested-called t (linking (argument c 0) (argument c 1) c.name (argument c 3) (argument c 4)) refl) h)
 
-    pub create-done : v ≡ Create → Does d true t (after_event (asked CreateKind)) → Does d true t (responded_to v c t)
+    pub create-done : v ≡ Create → Does d t (after_event (asked CreateKind)) → Does d t (responded_to v c t)
     unfolding responded_to bare
-    create-done e h = rw e (subst (λ (a : Answered). Does d true t (after_event a)) (tested-called t (creating (argument c 0) (argument c 1) c.name (argument c 3) (argument c 4)) refl) h)
+    create-done e h = rw e (subst (λ (a : Answered). Does d t (after_event a)) (tested-called t (creating (argument c 0) (argument c 1) c.name (argument c 3) (argument c 4)) refl) h)
 
-  -- the session is open
-  pub session-done : (b : Bool) (v : Verb) (c : Command) → b ≡ true → v ≡ c.verb → Does d true t (responded_to v c t) → Does d b t (responded (record { «open» = b; tables = t }) c)
-  unfolding responded
-  session-done b v c e g h = rw e (subst (λ (w : Verb). Does d true t (responded_to w c t)) g h)
+-- the change y, in tables u that are t
+module _ (t u : Tables) (e : u ≡ t) (z : Sized u) (r : Ready u) (y : Change) (h : Applies u y) (c : Command) where
+  there : (v : Tables → Response) → Does (Changes y) u (v u) → Does (Changes y) t (v t)
+  there v d = subst (λ (s : Tables). Does (Changes y) s (v s)) e d
+
+  -- of partition p
+  module _ (p : ℕ) (k : p ≡ argument c 0) where
+    abbrev Gives : (Tables → ℕ → Outcome) → Type 0
+    Gives o = applied u y ≡ stored u (o u p)
+
+    at_number : (o : Tables → ℕ → Outcome) → Gives o → applied u y ≡ stored u (o u (argument c 0))
+    at_number o g = g ∙ ap (λ (q : ℕ). stored u (o u q)) k
+
+    pub ask-here : (b : Kind) → applied u y ≡ stored u (ask b (view u) p (argument c 1) c.name (argument c 3) (argument c 4))
+        → Does (Changes y) t (after_event (tested t (ask b (view t) (argument c 0) (argument c 1) c.name (argument c 3) (argument c 4))))
+    ask-here b g =
+        let o : Tables → ℕ → Outcome = λ s q. ask b (view s) q (argument c 1) c.name (argument c 3) (argument c 4) in
+        there (λ s. after_event (tested s (o s (argument c 0)))) (outcome-done u z r y h (o u (argument c 0)) (at_number o g))
+
+    pub unlink-here : applied u y ≡ stored u (unlink (view u) p (argument c 1) c.name) → Does (Changes y) t (responded_to Unlink c t)
+    unlink-here g = there (responded_to Unlink c) (unlink-done u z r y h c (at_number (λ s q. unlink (view s) q (argument c 1) c.name) g))
+
+    pub advance-here : applied u y ≡ stored u (advance (view u) p (argument c 1)) → Does (Changes y) t (responded_to Advance c t)
+    advance-here g = there (responded_to Advance c) (advance-done u z r y h c (at_number (λ s q. advance (view s) q (argument c 1)) g))
+
+    pub recover-here : applied u y ≡ stored u (recover (view u) p) → Does (Changes y) t (responded_to Recover c t)
+    recover-here g = there (responded_to Recover c) (recover-done u z r y h c (at_number (λ s q. recover (view s) q) g))
+
+    -- and from it to partition q
+    pub deliver-here : (q : ℕ) → q ≡ argument c 1 → applied u y ≡ stored u (deliver (view u) p q) → Does (Changes y) t (responded_to Deliver c t)
+    deliver-here q m g = there (responded_to Deliver c) (deliver-done u z r y h c (at_number (λ s n. deliver (view s) n q) g ∙ ap (λ (n : ℕ). stored u (deliver (view u) (argument c 0) n)) m))
 
 pub ruleset faults-done = (fault-refused, fault-lost)
 
-pub ruleset verbs-done = (none_done, verb-done, link-done, create-done)
+pub ruleset verbs-done = (verb-done, link-done, create-done)

@@ -17,9 +17,8 @@ use Rattle.protocol.specs.declared.Message.{Message}
 use Rattle.protocol.specs.declared.Refusal.TheVariants.{Down, OutOfRange, QueueEmpty}
 use Rattle.protocol.specs.declared.Reply.TheVariants.{None}
 use Rattle.tables.specs.Slots.{free_message, no_message}
-use Rattle.tables.specs.View.{Sized, Stored, messages_of, partition_at, queue_at, view}
+use Rattle.tables.specs.View.{Sized, Stored, messages_of, partition_at, queue_at, view, Queue}
 use Rattle.tables.specs.declared.Partition.{Partition}
-use Rattle.tables.specs.declared.Queue.{Queue}
 use Rattle.tables.specs.declared.Tables.{Tables}
 use Rattle.answers.specs.Called.{Ready, refused_with, stored}
 use Rattle.answers.specs.declared.Answered.{Answered}
@@ -60,15 +59,17 @@ module _ (t : Tables) (z : Sized t) (o : Ready t) (s r : ℕ) (hs : s < t.count)
     held : queue m s r ≡ messages_of y
     held = queue-view t s r ∙ ap messages_of (sym e)
 
-    pub nothing-there : (a : Answered) → y.count ≤ 0 → a ≡ refused_with t QueueEmpty → a ≡ stored t (deliver_oldest (view t) s r (queue (view t) s r))
+    pub nothing-there : (a : Answered) → y.count ≡ 0 → a ≡ refused_with t QueueEmpty → a ≡ stored t (deliver_oldest (view t) s r (queue (view t) s r))
     unfolding stored
-    nothing-there a h k =
-        let n : y.count ≡ 0 = omega arith in
+    nothing-there a n k =
         let l : queue m s r ≡ [] = held ∙ ap (λ (i : ℕ). take i y.items) n in
         k ∙ rw l refl
 
     -- its oldest message is x
-    module _ (h : 0 < y.count) (x : Message) (v : x ≡ get_or y.items 0 no_message) where
+    module _ (g : y.count ≡ 0 → ⊥) (x : Message) (v : x ≡ get_or y.items 0 no_message) where
+      h : 0 < y.count
+      h = omega arith
+
       long : length (messages_of y) ≡ y.count
       long =
           let a = read-four t s z o hs in

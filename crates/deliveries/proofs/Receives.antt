@@ -1,5 +1,5 @@
 -- What a received message does to stored tables, in plain variables.
-use mathlib.Core.Bool.{false, true}
+use mathlib.Core.Bool.{true}
 use mathlib.Core.List.{List, [], ◌++◌, ◌∷◌}
 use mathlib.Core.Path.{◌∙◌, ◌≡◌, ap, refl, subst, sym}
 use Prim.Native.Nat.{◌*◌, ◌+◌, ◌-◌, ◌<◌, ◌≤◌, ℕ}
@@ -7,8 +7,6 @@ use native.Mathlib.Omega.{arith}
 use lib.ListN.{get_or, length, length-append, length-set, replicate, set}
 use lib.Seq.{get_or-take}
 use Rattle.lists.specs.Lists.{first_at, keep, map_if, pad, remove_at, without}
-use Rattle.lists.specs.declared.Found.{Found}
-use Rattle.lists.specs.declared.Found.TheVariants.{At, Nothing}
 use Rattle.protocol.specs.Answers.{accept}
 use Rattle.protocol.specs.Bounds.{max_backpointers, max_messages, max_partitions, max_records, queue_count}
 use Rattle.protocol.specs.Deliver.{answer_to, backpointer_of, carry_out, is_exactly, land, receive, stage_after, verdict, verdict_of}
@@ -19,16 +17,14 @@ use Rattle.protocol.specs.declared.Body.TheVariants.{No, NoBecause, Request, Yes
 use Rattle.protocol.specs.declared.Message.{Message}
 use Rattle.protocol.specs.declared.Reason.{Reason}
 use Rattle.protocol.specs.declared.Record.{Record}
-use Rattle.protocol.specs.declared.Reply.TheVariants.{None}
+use Rattle.protocol.specs.declared.Reply.TheVariants.{None as NoReply}
+use Rattle.std.specs.Prelude.{None, Option, Some}
 use Rattle.protocol.specs.declared.Stage.{Stage}
 use Rattle.protocol.specs.declared.Verdict.{Verdict}
 use Rattle.protocol.specs.declared.Verdict.TheVariants.{AddsIt, DropsIt, SaysOnly}
 use Rattle.tables.specs.Slots.{no_backpointer, no_record, zero_backpointer, zero_message, zero_record}
-use Rattle.tables.specs.View.{Sized, Stored, backpointers_of, messages_of, no_queue, pack, pack_backpointers, pack_queue, pack_records, partition_at, queue_at, records_of, view, view_partition}
-use Rattle.tables.specs.declared.Backpointers.{Backpointers}
+use Rattle.tables.specs.View.{Sized, Stored, backpointers_of, messages_of, no_queue, pack, pack_backpointers, pack_queue, pack_records, partition_at, queue_at, records_of, view, view_partition, Backpointers, Records, Queue}
 use Rattle.tables.specs.declared.Partition.{Partition}
-use Rattle.tables.specs.declared.Queue.{Queue}
-use Rattle.tables.specs.declared.Records.{Records}
 use Rattle.tables.specs.declared.Tables.{Tables}
 use Rattle.answers.specs.Called.{stored}
 use Rattle.answers.specs.Change.{Applies, applied, exchanges_with}
@@ -39,20 +35,19 @@ use Rattle.lists.proofs.Fills.{take-pad}
 use Rattle.lists.proofs.Finds.{found_below, found-changed, found-removed, none_kept}
 use Rattle.lists.proofs.Images.{map_at}
 use Rattle.lists.proofs.Places.{nothing_left}
-use Rattle.lists.proofs.Tests.{no_true}
 use Rattle.protocol.proofs.Numbers.{part-queue}
 use Rattle.tables.proofs.Stored.{backpointers-stored, packed-messages, records-stored, stored-queue}
 use Rattle.tables.proofs.Views.{partition-there, queue-view, queues-view}
-use Rattle.answers.proofs.Applied.{backpointers-exchange, exchanged-applies, messages-exchange, records-exchange}
+use Rattle.answers.proofs.Applied.{backpointers-exchange, exchanged-applies, messages-exchange, records-exchange, unsent}
 use Rattle.verdicts.proofs.Verdicts.{adds-below}
 
 -- ---- a list without what a request to remove is about
 
-module _ (l : Backpointers) (s : ℕ) (x : Message) (f : Found) (e : f ≡ first_at (is_exactly s x) (backpointers_of l)) where
-  pub exactly-none : pack_backpointers (backpointers_of l) ≡ l → f ≡ Nothing → l ≡ pack_backpointers (without (is_exactly s x) (backpointers_of l))
+module _ (l : Backpointers) (s : ℕ) (x : Message) (f : Option ℕ) (e : f ≡ first_at (is_exactly s x) (backpointers_of l)) where
+  pub exactly-none : pack_backpointers (backpointers_of l) ≡ l → f ≡ None → l ≡ pack_backpointers (without (is_exactly s x) (backpointers_of l))
   exactly-none p q = sym p ∙ ap pack_backpointers (sym (nothing_left (is_exactly s x) no_backpointer (backpointers_of l) (rw (none_kept (is_exactly s x) 0 (backpointers_of l) (sym e ∙ q)) (omega arith))).0)
 
-  pub exactly-at : (i : ℕ) (k : Backpointers) → f ≡ At i → k ≡ pack_backpointers (remove_at i (backpointers_of l))
+  pub exactly-at : (i : ℕ) (k : Backpointers) → f ≡ Some i → k ≡ pack_backpointers (remove_at i (backpointers_of l))
       → length (keep (is_exactly s x) (backpointers_of l)) ≤ 1 → k ≡ pack_backpointers (without (is_exactly s x) (backpointers_of l))
   exactly-at i k q h o = h ∙ ap pack_backpointers (found-removed (is_exactly s x) no_backpointer (backpointers_of l) i (sym e ∙ q) o)
 
@@ -60,11 +55,11 @@ pub ruleset exactlies = (exactly-none, exactly-at)
 
 -- ---- a list with a record in another stage
 
-module _ (l : Records) (n : ℕ) (g : Stage) (f : Found) (e : f ≡ first_at (record_bears n) (records_of l)) where
-  pub staged-none : pack_records (records_of l) ≡ l → f ≡ Nothing → l ≡ pack_records (map_if (record_bears n) (in_stage g) (records_of l))
+module _ (l : Records) (n : ℕ) (g : Stage) (f : Option ℕ) (e : f ≡ first_at (record_bears n) (records_of l)) where
+  pub staged-none : pack_records (records_of l) ≡ l → f ≡ None → l ≡ pack_records (map_if (record_bears n) (in_stage g) (records_of l))
   staged-none p q = sym p ∙ ap pack_records (sym ((nothing_left (record_bears n) no_record (records_of l) (rw (none_kept (record_bears n) 0 (records_of l) (sym e ∙ q)) (omega arith))).1 (in_stage g)))
 
-  pub staged-at : (i : ℕ) (k : Records) (c c' : Record) → f ≡ At i → c ≡ get_or l.items i no_record → c' ≡ in_stage g c
+  pub staged-at : (i : ℕ) (k : Records) (c c' : Record) → f ≡ Some i → c ≡ get_or l.items i no_record → c' ≡ in_stage g c
       → k ≡ pack_records (set (records_of l) i c') → length (keep (record_bears n) (records_of l)) ≤ 1
       → k ≡ pack_records (map_if (record_bears n) (in_stage g) (records_of l))
   staged-at i k c c' q r h p o =
@@ -149,20 +144,18 @@ module _ (t : Tables) (z : Sized t) (s r : ℕ) (o : Waits t s r) where
       ∙ ap (λ (q : Queue). q.count) (map_at pack_queue l (r * max_partitions + s) no_queue [] (rw n (omega arith)))
 
 module _ (t : Tables) (z : Sized t) (s r : ℕ) (c : Change) (y : Partition) (n : ℕ) (g : Message) where
-  pub said-applies : Answers t s r → c ≡ exchanges_with r s y n true true g → Applies t c
+  pub said-applies : Answers t s r → c ≡ exchanges_with r s y n true (Some g) → Applies t c
   said-applies o e =
       let w = o.waits in
-      exchanged-applies t w.ready r w.to.inside c s w.from.inside y n true true g (record { some = λ k. w.some })
-      (record { room = λ k. rw (left-count t z s r w) o.room }) e
+      exchanged-applies t w.ready r w.to.inside c s w.from.inside y n true (Some g) (record { some = λ k. w.some })
+      (record { room = λ i k. rw (left-count t z s r w) o.room }) e
 
-  pub landed-applies : (x : Message) → Lands t s r x → c ≡ exchanges_with r s y n true false g → Applies t c
+  pub landed-applies : (x : Message) → Lands t s r x → c ≡ exchanges_with r s y n true None → Applies t c
   landed-applies x o e =
       let w = o.waits in
-      exchanged-applies t w.ready r w.to.inside c s w.from.inside y n true false g (record { some = λ k. w.some }) (record { room = λ k. no_true k refl }) e
+      exchanged-applies t w.ready r w.to.inside c s w.from.inside y n true None (record { some = λ k. w.some }) (record { room = λ i k. unsent i k }) e
 
 -- a request is answered
-pub says_so : (s r n : ℕ) (x g : Message) (b : Body) (y : Partition) (c : Change) → g ≡ answer_to x b → c ≡ exchanges_with r s y n true true g → c ≡ exchanges_with r s y n true true (answer_to x b)
-says_so s r n x g b y c q h = h ∙ ap (exchanges_with r s y n true true) q
 
 module _ (t : Tables) (s r : ℕ) (o : Answers t s r) (x : Message) (y : Partition) (e : y ≡ partition_at t r) (c : Change) where
   abbrev m : Model
@@ -174,30 +167,30 @@ module _ (t : Tables) (s r : ℕ) (o : Answers t s r) (x : Message) (y : Partiti
   there : Stored t s
   there = o.waits.from
 
-  pub said-sent : (b : Body) → c ≡ exchanges_with r s y x.number true true (answer_to x b) → applied t c ≡ stored t (accept x.number None (send m r s (answer_to x b)))
-  said-sent b k = messages-exchange t r here y e s there true true (answer_to x b) x.number c k
+  pub said-sent : (b : Body) → c ≡ exchanges_with r s y x.number true (Some (answer_to x b)) → applied t c ≡ stored t (accept x.number NoReply (send m r s (answer_to x b)))
+  said-sent b k = messages-exchange t r here y e s there true (Some (answer_to x b)) x.number c k
 
   -- d is the sender's number, l are the back-pointers of r after it
   module _ (d : ℕ) (q : d ≡ s) (l : Backpointers)
-      (k : c ≡ exchanges_with r s (record { up = y.up; last = y.last; entries = y.entries; backpointers = l; records = y.records }) x.number true true (answer_to x Yes)) where
+      (k : c ≡ exchanges_with r s (record { up = y.up; last = y.last; entries = y.entries; backpointers = l; records = y.records }) x.number true (Some (answer_to x Yes))) where
     changed-to : (f : List Backpointer → List Backpointer) → l ≡ pack_backpointers (f (backpointers_of y.backpointers))
-        → applied t c ≡ stored t (accept x.number None (send (change_backpointers m r f) r s (answer_to x Yes)))
+        → applied t c ≡ stored t (accept x.number NoReply (send (change_backpointers m r f) r s (answer_to x Yes)))
     changed-to f h =
-        backpointers-exchange t r here y e s there true true (answer_to x Yes) x.number c f l (h ∙ ap (λ (p : Part). pack_backpointers (f p.backpointers)) (sym (seen t r here y e))) k
+        backpointers-exchange t r here y e s there true (Some (answer_to x Yes)) x.number c f l (h ∙ ap (λ (p : Part). pack_backpointers (f p.backpointers)) (sym (seen t r here y e))) k
 
     pub added : (b : Backpointer) → b ≡ backpointer_of d x → l ≡ pack_backpointers (backpointers_of y.backpointers ++ b ∷ [])
-        → applied t c ≡ stored t (accept x.number None (carry_out m s r x AddsIt))
+        → applied t c ≡ stored t (accept x.number NoReply (carry_out m s r x AddsIt))
     unfolding carry_out
     added b w h =
         changed-to (λ j. j ++ b ∷ []) h
-        ∙ ap (λ (i : Backpointer). stored t (accept x.number None (send (add_backpointer m r i) r s (answer_to x Yes)))) (w ∙ ap (λ (i : ℕ). backpointer_of i x) q)
+        ∙ ap (λ (i : Backpointer). stored t (accept x.number NoReply (send (add_backpointer m r i) r s (answer_to x Yes)))) (w ∙ ap (λ (i : ℕ). backpointer_of i x) q)
 
     pub removed : l ≡ pack_backpointers (without (is_exactly d x) (backpointers_of y.backpointers))
-        → applied t c ≡ stored t (accept x.number None (carry_out m s r x DropsIt))
+        → applied t c ≡ stored t (accept x.number NoReply (carry_out m s r x DropsIt))
     unfolding carry_out
     removed h =
         changed-to (without (is_exactly d x)) h
-        ∙ ap (λ (i : ℕ). stored t (accept x.number None (send (drop_backpointer m r (is_exactly i x)) r s (answer_to x Yes)))) q
+        ∙ ap (λ (i : ℕ). stored t (accept x.number NoReply (send (drop_backpointer m r (is_exactly i x)) r s (answer_to x Yes)))) q
 
 pub ruleset sayings = (said-sent, said-applies)
 
@@ -209,15 +202,15 @@ pub verdict-told : (y : Part) (s : ℕ) (x : Message) (v g : Verdict) → v ≡ 
 verdict-told y s x v g q h = sym q ∙ h
 
 module _ (t : Tables) (m : Model) (s r n : ℕ) (x : Message) (v : Verdict) (a : Answered) where
-  pub said : (b : Body) → v ≡ SaysOnly b → a ≡ stored t (accept n None (send m r s (answer_to x b))) → a ≡ stored t (accept n None (carry_out m s r x v))
+  pub said : (b : Body) → v ≡ SaysOnly b → a ≡ stored t (accept n NoReply (send m r s (answer_to x b))) → a ≡ stored t (accept n NoReply (carry_out m s r x v))
   unfolding carry_out
   said b q h = h ∙ rw q refl
 
-  pub carried : (g : Verdict) → v ≡ g → a ≡ stored t (accept n None (carry_out m s r x g)) → a ≡ stored t (accept n None (carry_out m s r x v))
-  carried g q h = h ∙ ap (λ (j : Verdict). stored t (accept n None (carry_out m s r x j))) (sym q)
+  pub carried : (g : Verdict) → v ≡ g → a ≡ stored t (accept n NoReply (carry_out m s r x g)) → a ≡ stored t (accept n NoReply (carry_out m s r x v))
+  carried g q h = h ∙ ap (λ (j : Verdict). stored t (accept n NoReply (carry_out m s r x j))) (sym q)
 
-  pub answered : (y : Part) → v ≡ verdict y s x → a ≡ stored t (accept n None (carry_out m s r x v)) → a ≡ stored t (accept n None (carry_out m s r x (verdict y s x)))
-  answered y q h = h ∙ ap (λ (j : Verdict). stored t (accept n None (carry_out m s r x j))) q
+  pub answered : (y : Part) → v ≡ verdict y s x → a ≡ stored t (accept n NoReply (carry_out m s r x v)) → a ≡ stored t (accept n NoReply (carry_out m s r x (verdict y s x)))
+  answered y q h = h ∙ ap (λ (j : Verdict). stored t (accept n NoReply (carry_out m s r x j))) q
 
 pub ruleset carryings = (said, verdict-told, carried)
 
@@ -229,11 +222,11 @@ module _ (t : Tables) (s r : ℕ) (x : Message) (o : Lands t s r x) (y : Partiti
   pub land-single : length (keep (record_bears x.number) (records_of y.records)) ≤ 1
   land-single = subst (λ (p : Part). length (keep (record_bears x.number) p.records) ≤ 1) (seen t r o.waits.to y e) o.single
 
-  pub landed : (g : Stage) (l : Records) (c : Change) (k : Message) → g ≡ stage_after x.kind x.body → l ≡ pack_records (map_if (record_bears x.number) (in_stage g) (records_of y.records))
-      → c ≡ exchanges_with r s (record { up = y.up; last = y.last; entries = y.entries; backpointers = y.backpointers; records = l }) x.number true false k
-      → applied t c ≡ stored t (accept x.number None (land (taken_from t s r) r x))
-  landed g l c k q h a =
-      records-exchange t r o.waits.to y e s o.waits.from true false k x.number c
+  pub landed : (g : Stage) (l : Records) (c : Change) → g ≡ stage_after x.kind x.body → l ≡ pack_records (map_if (record_bears x.number) (in_stage g) (records_of y.records))
+      → c ≡ exchanges_with r s (record { up = y.up; last = y.last; entries = y.entries; backpointers = y.backpointers; records = l }) x.number true None
+      → applied t c ≡ stored t (accept x.number NoReply (land (taken_from t s r) r x))
+  landed g l c q h a =
+      records-exchange t r o.waits.to y e s o.waits.from true None x.number c
       (map_if (record_bears x.number) (in_stage (stage_after x.kind x.body))) l
       (h ∙ ap (λ (j : Stage). pack_records (map_if (record_bears x.number) (in_stage j) (records_of y.records))) q
       ∙ ap (λ (p : Part). pack_records (map_if (record_bears x.number) (in_stage (stage_after x.kind x.body)) p.records)) (sym (seen t r o.waits.to y e))) a
@@ -248,14 +241,14 @@ module _ (t : Tables) (s r n : ℕ) (x : Message) where
 
   module _ (a : Answered) where
     abbrev Lands-so : Type 0
-    Lands-so = a ≡ stored t (accept n None (land (taken_from t s r) r x))
+    Lands-so = a ≡ stored t (accept n NoReply (land (taken_from t s r) r x))
 
     abbrev Goal : Type 0
-    Goal = a ≡ stored t (accept n None (receive x.body (taken_from t s r) s r x))
+    Goal = a ≡ stored t (accept n NoReply (receive x.body (taken_from t s r) s r x))
 
-    pub received-request : x.body ≡ Request → a ≡ stored t (accept n None (carry_out (taken_from t s r) s r x (verdict (partition (view t) r) s x))) → Goal
+    pub received-request : x.body ≡ Request → a ≡ stored t (accept n NoReply (carry_out (taken_from t s r) s r x (verdict (partition (view t) r) s x))) → Goal
     received-request q h =
-        h ∙ ap (λ (y : Part). stored t (accept n None (carry_out (taken_from t s r) s r x (verdict y s x)))) (sym (part-queue (view t) s r (remove_at 0 (queue (view t) s r)) r)) ∙ rw q refl
+        h ∙ ap (λ (y : Part). stored t (accept n NoReply (carry_out (taken_from t s r) s r x (verdict y s x)))) (sym (part-queue (view t) s r (remove_at 0 (queue (view t) s r)) r)) ∙ rw q refl
 
     pub received-yes : x.body ≡ Yes → Lands-so → Goal
     received-yes q h = h ∙ rw q refl

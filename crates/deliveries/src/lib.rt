@@ -7,7 +7,6 @@ ghost use Rattle.protocol.specs.Bounds.{max_backpointers, max_partitions, max_re
 ghost use Rattle.protocol.specs.Deliver.{answer_to, backpointer_of, carry_out, deliver, deliver_oldest, is_exactly, land, receive, stage_after, verdict};
 ghost use Rattle.protocol.specs.Answers.{accept};
 ghost use Rattle.protocol.specs.Tables.{in_stage, partition, queue, record_bears, send};
-ghost use Rattle.protocol.specs.declared.Kind.TheVariants.{Link};
 ghost use Rattle.protocol.specs.declared.Reply.TheVariants.{None};
 ghost use Rattle.protocol.specs.declared.Verdict.TheVariants.{AddsIt, DropsIt};
 ghost use Rattle.tables.specs.View.{backpointers_of, pack_backpointers, pack_records, partition_at, queue_at, records_of, view};
@@ -15,258 +14,210 @@ ghost use Rattle.answers.specs.Called.{Ready, stored};
 ghost use Rattle.answers.specs.Change.{Applies, applied, exchanges_with};
 ghost use Rattle.deliveries.specs.Taken.{Answers, Lands, OneExactly, Received, taken_from};
 
-use answers::changes::{Change, exchanges, keeps};
-use answers::{Answered, changes, queues, refused};
-use lists::Found;
+use answers::changes::{Change, apply};
+use answers::here::Here;
+use answers::{Answered, is_there, refused};
 use protocol::{Backpointer, Body, Kind, Message, Refusal, Stage, Verdict};
-use tables::{Backpointers, Partition, Queue, Records, Tables, reads, writes};
+use tables::{Backpointers, Partition, Records, Tables, reads, writes};
 
-// What is received gives a change of the tables t, in which the message x still stands in the queue. Each layer is handed own,
-// partition r there: one that read it would copy all of t.
+// What is received gives a change of the tables, in which the message x still stands in the queue.
 
-// ---- a request from s, at the object's partition r
+// ---- a request, at the object's partition
 
 fn answer_to(x: Message, body: Body) -> Message
     ensures { result ≡ answer_to x body }
 {
-    let kind = x.kind;
-    let name = x.name;
-    Message {
-        body: body,
-        kind: kind,
-        directory: x.directory,
-        name: name,
-        partition: x.partition,
-        object: x.object,
-        number: x.number,
-    }
+    Message { body, ..x }
 }
 
 fn backpointer_of(s: u8, x: Message) -> Backpointer
     ensures { result ≡ backpointer_of s x }
 {
-    let name = x.name;
     Backpointer {
         object: x.object,
         parent: s,
         directory: x.directory,
-        name: name,
+        name: x.name,
         number: x.number,
     }
 }
 
 // Without the back-pointer that a request to remove is about, if it is there.
-fn without_exactly(l: Backpointers, s: u8, x: Message) -> Backpointers
+fn without_exactly(mut l: Backpointers, s: u8, x: Message) -> Backpointers
     requires { (pack_backpointers (backpointers_of l) ≡ l) × (l.count ≤ max_backpointers) × (length (keep (is_exactly s x) (backpointers_of l)) ≤ 1) }
     ensures { result ≡ pack_backpointers (without (is_exactly s x) (backpointers_of l)) }
 {
-    let found = reads::find_exactly(l, s, x);
-    match found {
-        Found::Nothing => l,
-        Found::At(i) => writes::remove_backpointer(l, i),
+    if let Some(i) = reads::find_exactly(&l, s, &x) {
+        writes::remove(&mut l, i);
+    }
+    l
+}
+
+// The request x, the oldest message from partition `from` to the one that is here; there is room for an answer.
+#[derive(Clone, Copy)]
+struct Request<'a> {
+    to: Here<'a>,
+    from: usize,
+    x: Message,
+    ghost answers: { Answers to.tables.now from to.at },
+    ghost exactly: { OneExactly to.tables.now from to.at x },
+}
+
+impl Request<'_> {
+    // It is taken, and the answer to it sent; the partition is then y.
+    fn take_and_say(self, y: Partition, body: Body) -> Change
+        ensures { result ≡ exchanges_with self.entry.to.at self.entry.from y self.entry.x.number true (Some (answer_to self.entry.x body)) }
+    {
+        let answer = Some(answer_to(self.x, body));
+        self.to.exchanges(self.from, y, self.x.number, true, answer)
+    }
+
+    fn say(self, body: Body) -> Change
+        ensures result_value { let t = self.entry.to.tables.now in let s = self.entry.from in let r = self.entry.to.at in let x = self.entry.x in applied t result ≡ stored t (accept x.number None (send (taken_from t s r) r s (answer_to x body))) }
+        ensures applies { Applies self.entry.to.tables.now result }
+    {
+        self.take_and_say(*self.to.own(), body)
+    }
+
+    fn add(self) -> Change
+        requires { AddsIt ≡ verdict (partition (view self.to.tables.now) self.to.at) self.from self.x }
+        ensures result_value { let t = self.entry.to.tables.now in let s = self.entry.from in let r = self.entry.to.at in let x = self.entry.x in applied t result ≡ stored t (accept x.number None (carry_out (taken_from t s r) s r x AddsIt)) }
+        ensures applies { Applies self.entry.to.tables.now result }
+    {
+        let mut own = *self.to.own();
+        let item = backpointer_of(self.from as u8, self.x);
+        writes::add(&mut own.backpointers, item);
+        self.take_and_say(own, Body::Yes)
+    }
+
+    fn remove(self) -> Change
+        ensures result_value { let t = self.entry.to.tables.now in let s = self.entry.from in let r = self.entry.to.at in let x = self.entry.x in applied t result ≡ stored t (accept x.number None (carry_out (taken_from t s r) s r x DropsIt)) }
+        ensures applies { Applies self.entry.to.tables.now result }
+    {
+        let mut own = *self.to.own();
+        own.backpointers = without_exactly(own.backpointers, self.from as u8, self.x);
+        self.take_and_say(own, Body::Yes)
+    }
+
+    fn carry_out(self, v: Verdict) -> Change
+        requires { v ≡ verdict (partition (view self.to.tables.now) self.to.at) self.from self.x }
+        ensures result_value { let t = self.entry.to.tables.now in let s = self.entry.from in let r = self.entry.to.at in let x = self.entry.x in applied t result ≡ stored t (accept x.number None (carry_out (taken_from t s r) s r x v)) }
+        ensures applies { Applies self.entry.to.tables.now result }
+    {
+        match v {
+            Verdict::SaysOnly(body) => self.say(body),
+            Verdict::AddsIt => self.add(),
+            Verdict::DropsIt => self.remove(),
+        }
+    }
+
+    fn answer(self) -> Change
+        ensures result_value { let t = self.entry.to.tables.now in let s = self.entry.from in let r = self.entry.to.at in let x = self.entry.x in applied t result ≡ stored t (accept x.number None (carry_out (taken_from t s r) s r x (verdict (partition (view t) r) s x))) }
+        ensures applies { Applies self.entry.to.tables.now result }
+    {
+        let v = verdicts::verdict(&self.to.own().backpointers, self.from as u8, self.x);
+        self.carry_out(v)
     }
 }
 
-// A partition's number, as the tables hold it.
-fn number_of(p: usize) -> u8
-    requires { p < max_partitions }
-    ensures { result ≡ p }
-{
-    p as u8
-}
-
-// x is taken, and the answer to it sent; r is then own.
-fn take_and_say(own: Partition, s: usize, r: usize, x: Message, body: Body) -> Change
-    ensures { result ≡ exchanges_with r s own x.number true true (answer_to x body) }
-{
-    let answer = answer_to(x, body);
-    exchanges(r, s, own, x.number, true, true, answer)
-}
-
-fn say(t: Tables, own: Partition, s: usize, r: usize, x: Message, body: Body) -> Change
-    requires { Answers t s r × (own ≡ partition_at t r) }
-    ensures result_value { applied t result ≡ stored t (accept x.number None (send (taken_from t s r) r s (answer_to x body))) }
-    ensures applies { Applies t result }
-{
-    take_and_say(own, s, r, x, body)
-}
-
-fn add(t: Tables, own: Partition, s: usize, r: usize, x: Message) -> Change
-    requires { Answers t s r × (AddsIt ≡ verdict (partition (view t) r) s x) × (own ≡ partition_at t r) }
-    ensures result_value { applied t result ≡ stored t (accept x.number None (carry_out (taken_from t s r) s r x AddsIt)) }
-    ensures applies { Applies t result }
-{
-    let backpointers = own.backpointers;
-    let parent = number_of(s);
-    let item = backpointer_of(parent, x);
-    let more = writes::add_backpointer(backpointers, item);
-    let mut next = own;
-    next.backpointers = more;
-    let yes = Body::Yes;
-    take_and_say(next, s, r, x, yes)
-}
-
-fn remove(t: Tables, own: Partition, s: usize, r: usize, x: Message) -> Change
-    requires { Answers t s r × OneExactly t s r x × (own ≡ partition_at t r) }
-    ensures result_value { applied t result ≡ stored t (accept x.number None (carry_out (taken_from t s r) s r x DropsIt)) }
-    ensures applies { Applies t result }
-{
-    let backpointers = own.backpointers;
-    let parent = number_of(s);
-    let fewer = without_exactly(backpointers, parent, x);
-    let mut next = own;
-    next.backpointers = fewer;
-    let yes = Body::Yes;
-    take_and_say(next, s, r, x, yes)
-}
-
-fn carry_out(t: Tables, own: Partition, s: usize, r: usize, x: Message, v: Verdict) -> Change
-    requires { Answers t s r × OneExactly t s r x × (v ≡ verdict (partition (view t) r) s x) × (own ≡ partition_at t r) }
-    ensures result_value { applied t result ≡ stored t (accept x.number None (carry_out (taken_from t s r) s r x v)) }
-    ensures applies { Applies t result }
-{
-    match v {
-        Verdict::SaysOnly(body) => say(t, own, s, r, x, body),
-        Verdict::AddsIt => add(t, own, s, r, x),
-        Verdict::DropsIt => remove(t, own, s, r, x),
-    }
-}
-
-fn answer(t: Tables, own: Partition, s: usize, r: usize, x: Message) -> Change
-    requires { Answers t s r × OneExactly t s r x × (own ≡ partition_at t r) }
-    ensures result_value { applied t result ≡ stored t (accept x.number None (carry_out (taken_from t s r) s r x (verdict (partition (view t) r) s x))) }
-    ensures applies { Applies t result }
-{
-    let backpointers = own.backpointers;
-    let parent = number_of(s);
-    let v = verdicts::verdict(backpointers, parent, x);
-    carry_out(t, own, s, r, x, v)
-}
-
-// ---- an answer, at the record's partition r
-
-// Of a link, and of a create.
-fn stage_after_add(body: Body) -> Stage
-    ensures { result ≡ stage_after Link body }
-{
-    match body {
-        Body::Request => Stage::Ready,
-        Body::Yes => Stage::Held,
-        Body::No => Stage::Ready,
-        Body::NoBecause(why) => Stage::Refused(why),
-    }
-}
+// ---- an answer, at the record's partition
 
 fn stage_after(kind: Kind, body: Body) -> Stage
     ensures { result ≡ stage_after kind body }
 {
-    match kind {
-        Kind::Link => stage_after_add(body),
-        Kind::Create => stage_after_add(body),
-        Kind::Unlink => Stage::Cleared,
+    match (kind, body) {
+        (Kind::Unlink, _) => Stage::Cleared,
+        (_, Body::Request | Body::No) => Stage::Ready,
+        (_, Body::Yes) => Stage::Held,
+        (_, Body::NoBecause(why)) => Stage::Refused(why),
     }
 }
 
 // The record under the number in another stage, if it is there.
-fn with_stage(l: Records, number: u32, stage: Stage) -> Records
+fn with_stage(mut l: Records, number: u32, stage: Stage) -> Records
     requires { (pack_records (records_of l) ≡ l) × (l.count ≤ max_records) × (length (keep (record_bears number) (records_of l)) ≤ 1) }
     ensures { result ≡ pack_records (map_if (record_bears number) (in_stage stage) (records_of l)) }
 {
-    let found = reads::find_record(l, number);
-    match found {
-        Found::Nothing => l,
-        Found::At(i) => {
-            let own = l.items[i];
-            let item = advances::in_stage(stage, own);
-            writes::set_record(l, i, item)
-        }
+    if let Some(i) = reads::find_record(&l, number) {
+        let item = advances::in_stage(stage, l.items[i]);
+        writes::change(&mut l, i, item);
     }
+    l
 }
 
-fn land(t: Tables, own: Partition, s: usize, r: usize, x: Message) -> Change
-    requires { Lands t s r x × (own ≡ partition_at t r) }
-    ensures result_value { applied t result ≡ stored t (accept x.number None (land (taken_from t s r) r x)) }
-    ensures applies { Applies t result }
+fn land(to: Here, from: usize, x: Message) -> Change
+    requires { Lands to.tables.now from to.at x }
+    ensures result_value { let t = to.entry.tables.now in let r = to.entry.at in applied t result ≡ stored t (accept x.number None (land (taken_from t from r) r x)) }
+    ensures applies { Applies to.entry.tables.now result }
 {
-    let records = own.records;
-    let kind = x.kind;
-    let body = x.body;
-    let stage = stage_after(kind, body);
-    let landed = with_stage(records, x.number, stage);
-    let mut next = own;
-    next.records = landed;
-    exchanges(r, s, next, x.number, true, false, x)
+    let mut own = *to.own();
+    let stage = stage_after(x.kind, x.body);
+    own.records = with_stage(own.records, x.number, stage);
+    to.exchanges(from, own, x.number, true, None)
 }
 
-// ---- the event: r receives the oldest message from s
+// ---- the event: the partition that is here receives the oldest message from another
 
 // The message is x.
-fn receive(t: Tables, own: Partition, s: usize, r: usize, x: Message) -> Change
-    requires { Received t s r x × (own ≡ partition_at t r) }
-    ensures result_value { applied t result ≡ stored t (accept x.number None (receive x.body (taken_from t s r) s r x)) }
-    ensures applies { Applies t result }
+fn receive(to: Here, from: usize, x: Message) -> Change
+    requires { Received to.tables.now from to.at x }
+    ensures result_value { let t = to.entry.tables.now in let r = to.entry.at in applied t result ≡ stored t (accept x.number None (receive x.body (taken_from t from r) from r x)) }
+    ensures applies { Applies to.entry.tables.now result }
 {
-    let body = x.body;
-    match body {
-        Body::Request => answer(t, own, s, r, x),
-        Body::Yes => land(t, own, s, r, x),
-        Body::No => land(t, own, s, r, x),
-        Body::NoBecause(_) => land(t, own, s, r, x),
+    match x.body {
+        Body::Request => Request { to, from, x }.answer(),
+        Body::Yes | Body::No | Body::NoBecause(_) => land(to, from, x),
     }
 }
 
-fn deliver_oldest(t: Tables, own: Partition, waiting: Queue, s: usize, r: usize) -> Change
-    requires { Ready t × (s < t.count) × (s < max_partitions) × (r < t.count) × (r < max_partitions) × (waiting ≡ queue_at t (s * max_partitions + r)) × (own ≡ partition_at t r) }
-    ensures result_value { applied t result ≡ stored t (deliver_oldest (view t) s r (queue (view t) s r)) }
-    ensures applies { Applies t result }
+fn deliver_oldest(to: Here, from: usize) -> Change
+    requires { (from < to.tables.now.count) × (from < max_partitions) }
+    ensures result_value { let t = to.entry.tables.now in let r = to.entry.at in applied t result ≡ stored t (deliver_oldest (view t) from r (queue (view t) from r)) }
+    ensures applies { Applies to.entry.tables.now result }
 {
-    if 0 < waiting.count {} else {
-        return keeps(r, own, Refusal::QueueEmpty);
+    let waiting = to.queue_from(from);
+    if waiting.count == 0 {
+        return to.keeps(Refusal::QueueEmpty);
     }
-    let x = waiting.items[0];
-    receive(t, own, s, r, x)
+    receive(to, from, waiting.items[0])
 }
 
-// Sender and receiver are there; own is the receiver, and waiting the queue to it from the sender.
-pub fn deliver_change(t: Tables, own: Partition, waiting: Queue, s: usize, r: usize) -> Change
-    requires { Ready t × (s < t.count) × (s < max_partitions) × (r < t.count) × (r < max_partitions) × (waiting ≡ queue_at t (s * max_partitions + r)) × (own ≡ partition_at t r) }
-    ensures result_value { applied t result ≡ stored t (deliver (view t) s r) }
-    ensures applies { Applies t result }
+// The sender is there too.
+pub fn deliver_change(to: Here, from: usize) -> Change
+    requires { (from < to.tables.now.count) × (from < max_partitions) }
+    ensures result_value { let t = to.entry.tables.now in applied t result ≡ stored t (deliver (view t) from to.entry.at) }
+    ensures applies { Applies to.entry.tables.now result }
 {
-    if own.up {} else {
-        return keeps(r, own, Refusal::Down);
+    if !to.own().up {
+        return to.keeps(Refusal::Down);
     }
-    deliver_oldest(t, own, waiting, s, r)
+    deliver_oldest(to, from)
 }
 
-pub fn deliver_there(t: Tables, s: usize, r: usize) -> Answered
-    requires { Ready t × (s < t.count) × (s < max_partitions) × (r < t.count) × (r < max_partitions) }
-    ensures { result ≡ stored t (deliver (view t) s r) }
+pub fn deliver_there(to: Here, from: usize) -> Answered
+    requires { (from < to.tables.now.count) × (from < max_partitions) }
+    ensures { let t = to.entry.tables.now in result ≡ stored t (deliver (view t) from to.entry.at) }
 {
-    let own = t.partitions[r];
-    let waiting = queues::queue(t, s, r);
-    let change = deliver_change(t, own, waiting, s, r);
-    changes::apply(t, change)
+    apply(*to.tables, deliver_change(to, from))
 }
 
 // Whether sender and receiver are among n.
 pub fn are_there(n: usize, s: u32, r: u32) -> bool
     ensures { result ≡ (ltb s n && ltb r n) }
 {
-    if n <= s as usize {
-        return false;
-    }
-    (r as usize) < n
+    is_there(n, s) && is_there(n, r)
 }
 
 pub fn deliver_in_order(t: Tables, s: u32, r: u32) -> Answered
     requires { Ready t }
     ensures { result ≡ stored t (deliver (view t) s r) }
 {
-    if are_there(t.count, s, r) {} else {
+    if !are_there(t.count, s, r) {
         return refused(t, Refusal::OutOfRange);
     }
-    let from = s as usize;
-    let to = r as usize;
-    deliver_there(t, from, to)
+    let to = Here {
+        tables: &t,
+        at: r as usize,
+    };
+    deliver_there(to, s as usize)
 }

@@ -2,8 +2,8 @@
 use mathlib.Core.Bool.{Bool, ◌&&◌, and-false, false, not, or-true, true}
 use mathlib.Core.Path.{◌∙◌, ◌≡◌, ap, refl, sym}
 use Prim.Native.Nat.{◌<◌, ◌≤◌, ℕ}
-use lib.Dec.{eqb, leb, ltb}
-use borrow.Author.Tests.{eq-eqb, leb-true, ne_eqb}
+use lib.Dec.{leb, ltb}
+use borrow.Author.Tests.{eq-eqb, leb-true, ltb-true, ne_eqb}
 use Rattle.protocol.specs.Answers.{accept, check}
 use Rattle.protocol.specs.Bounds.{max_partitions}
 use Rattle.protocol.specs.Events.{opening, apply, bare}
@@ -18,88 +18,91 @@ use Rattle.tables.specs.declared.Tables.{Tables}
 use Rattle.answers.specs.Called.{Ready, accepted_with, called, refused_with, stored}
 use Rattle.answers.specs.declared.Answered.{Answered}
 use Rattle.losses.specs.Lost.{lost}
-use Rattle.losses.specs.declared.Loss.{Loss}
 use Rattle.losses.specs.declared.Loss.TheVariants.{Crash, Cut}
+use Rattle.std.specs.Prelude.{Ok, Err}
 use Rattle.faults.specs.Suffered.{suffered}
-use Rattle.faults.specs.declared.Fault.{Fault}
-use Rattle.faults.specs.declared.Fault.TheVariants.{Loses, Refused}
 use Rattle.lists.proofs.Tests.{and_right, both_true}
 use Rattle.answers.proofs.Applied.{changed-to}
 use Rattle.answers.specs.Change.{applied, changes_with}
 use Rattle.answers.specs.declared.changes.Change.{Change}
 use Rattle.tables.proofs.Stored.{partition-stored}
-use Rattle.answers.proofs.Ways.{accepts, passes, read_up, ready-stored, ready-test, ready-there, refuses}
+use Rattle.answers.proofs.Ways.{accepts, passes, read-four, read_up, ready-stored, ready-test, ready-there, refuses}
 
--- whether partition p is up, which was told as b
-told : (t : Tables) (z : Sized t) (r : Ready t) (p : ℕ) → p < t.count → (b : Bool) → b ≡ (partition_at t p).up → (partition (view t) p).up ≡ b
-told t z r p h b e = read_up t p z r h (partition_at t p) refl ∙ sym e
+module _ (t : Tables) (z : Sized t) (r : Ready t) where
+  -- whether partition p is there, and whether it is up: it was found at i
+  apart : (p : ℕ) (b : Bool) → ltb p t.count ≡ b → is_partition (view t) p ≡ b
+  apart p b f = ready-test t p z r _ refl ∙ f
 
-module _ (t : Tables) (z : Sized t) (r : Ready t) (a : Answered) where
-  -- ---- whether partitions are there; b is the test of p
+  told : (p i : ℕ) → i ≡ p → ltb p t.count ≡ true → (b : Bool) → (partition_at t i).up ≡ b → (partition (view t) p).up ≡ b
+  told p i e f b u = read_up t p z r (ltb-true _ _ f) (partition_at t p) refl ∙ ap (λ (y : ℕ). (partition_at t y).up) (sym e) ∙ u
 
-  abbrev Tests : ℕ → Bool → Type 0
-  Tests p b = b ≡ ltb p t.count
-
-  module _ (p : ℕ) (b : Bool) (e : Tests p b) (f : b ≡ false) (k : a ≡ refused_with t OutOfRange) where
-    pub crash-outside : a ≡ stored t (crash (view t) p)
-    unfolding crash
-    crash-outside = k ∙ refuses t _ OutOfRange _ _ refl (ready-test t p z r b e ∙ f)
-
-    pub recover-outside : a ≡ stored t (recover (view t) p)
-    unfolding recover
-    recover-outside = k ∙ refuses t _ OutOfRange _ _ refl (ready-test t p z r b e ∙ f)
-
-    pub cut-outside : (q : ℕ) → a ≡ stored t (cut (view t) p q)
-    unfolding cut
-    cut-outside q = k ∙ refuses t _ OutOfRange _ _ refl (rw (ready-test t p z r b e, f) refl)
-
-    pub cut-beyond : (q : ℕ) → a ≡ stored t (cut (view t) q p)
-    unfolding cut
-    cut-beyond q = k ∙ refuses t _ OutOfRange _ _ refl (rw (ready-test t p z r b e, f) (and-false (is_partition (view t) q)))
+  pub found-four : (p i : ℕ) → i ≡ p → ltb p t.count ≡ true → i < max_partitions
+  found-four p i e f = rw e (read-four t p z r (ltb-true _ _ f))
 
   -- ---- cut
 
   module _ (p q : ℕ) where
-    pub cut-itself : (b c : Bool) → Tests p b → b ≡ true → Tests q c → c ≡ true → p ≡ q → a ≡ refused_with t CutFromItself → a ≡ stored t (cut (view t) p q)
+    pub cut-outside : ltb p t.count ≡ false → (why : Refusal) → why ≡ OutOfRange → suffered t (Err why) ≡ stored t (cut (view t) p q)
     unfolding cut
-    cut-itself b c e f g h k w =
-        w ∙ refuses t _ CutFromItself _ _ refl (ap not (eq-eqb p q k)) ∙ passes t _ OutOfRange _ _ (both_true (ready-test t p z r b e ∙ f) (ready-test t q z r c g ∙ h))
+    cut-outside f why w = ap (refused_with t) w ∙ refuses t _ OutOfRange _ _ refl (rw (apart p false f) refl)
 
-    -- both are there, and they are two
-    module _ (h : p < t.count) (g : q < t.count) (n : eqb p q ≡ false) where
-      abbrev Goal : Type 0
-      Goal = a ≡ stored t (cut (view t) p q)
+    pub cut-beyond : ltb q t.count ≡ false → (why : Refusal) → why ≡ OutOfRange → suffered t (Err why) ≡ stored t (cut (view t) p q)
+    unfolding cut
+    cut-beyond f why w = ap (refused_with t) w ∙ refuses t _ OutOfRange _ _ refl (rw (apart q false f) (and-false (is_partition (view t) p)))
 
-      abbrev both_up : Bool
-      both_up = (partition (view t) p).up && (partition (view t) q).up
+    -- both are there
+    module _ (f : ltb p t.count ≡ true) (g : ltb q t.count ≡ true) (i j : ℕ) (e : i ≡ p) (k : j ≡ q) where
+      both-there : (is_partition (view t) p && is_partition (view t) q) ≡ true
+      both-there = both_true (apart p true f) (apart q true g)
 
-      onwards : a ≡ stored t (check both_up Down (view t) (accept 0 None (lose (sent_between p q) (between p q) (view t)))) → Goal
+      pub cut-itself : i ≡ j → suffered t (Err CutFromItself) ≡ stored t (cut (view t) p q)
       unfolding cut
-      onwards w = w ∙ passes t _ CutFromItself _ _ (ap not n) ∙ passes t _ OutOfRange _ _ (both_true (ready-there t p z r h) (ready-there t q z r g))
+      cut-itself h = refuses t _ CutFromItself _ _ refl (ap not (eq-eqb p q (sym e ∙ h ∙ k))) ∙ passes t _ OutOfRange _ _ both-there
 
-      down : both_up ≡ false → a ≡ refused_with t Down → Goal
-      down d w = onwards (w ∙ refuses t _ Down _ _ refl d)
+      -- and they are two
+      module _ (n : i ≡ j → ⊥) where
+        abbrev both_up : Bool
+        both_up = (partition (view t) p).up && (partition (view t) q).up
 
-      pub cut_down : (b : Bool) → b ≡ (partition_at t p).up → b ≡ false → a ≡ refused_with t Down → Goal
-      cut_down b e f w = down (rw (told t z r p h b e, f) refl) w
+        onwards : (a : Answered) → a ≡ stored t (check both_up Down (view t) (accept 0 None (lose (sent_between p q) (between p q) (view t)))) → a ≡ stored t (cut (view t) p q)
+        unfolding cut
+        onwards a w = w ∙ passes t _ CutFromItself _ _ (ap not (ne_eqb p q (λ h. n (e ∙ h ∙ sym k)))) ∙ passes t _ OutOfRange _ _ both-there
 
-      pub cut-far-down : (b : Bool) → b ≡ (partition_at t q).up → b ≡ false → a ≡ refused_with t Down → Goal
-      cut-far-down b e f w = down (rw (told t z r q g b e, f) (and-false (partition (view t) p).up)) w
+        down : both_up ≡ false → (why : Refusal) → why ≡ Down → suffered t (Err why) ≡ stored t (cut (view t) p q)
+        down d why w = onwards _ (ap (refused_with t) w ∙ refuses t _ Down _ _ refl d)
 
-      pub cut-done : (b c : Bool) → b ≡ (partition_at t p).up → b ≡ true → c ≡ (partition_at t q).up → c ≡ true → a ≡ accepted_with (pack (lost (Cut p q) (view t))) 0 None → Goal
-      unfolding lost
-      cut-done b c e k f d w = onwards (w ∙ accepts t _ 0 None _ refl ∙ passes t _ Down _ _ (both_true (told t z r p h b e ∙ k) (told t z r q g c f ∙ d)))
+        pub cut_down : (partition_at t i).up ≡ false → (why : Refusal) → why ≡ Down → suffered t (Err why) ≡ stored t (cut (view t) p q)
+        cut_down u why w = down (rw (told p i e f false u) refl) why w
 
-  -- ---- crash of partition p, which is up or not by the test b
+        pub cut-far-down : (partition_at t j).up ≡ false → (why : Refusal) → why ≡ Down → suffered t (Err why) ≡ stored t (cut (view t) p q)
+        cut-far-down u why w = down (rw (told q j k g false u) (and-false (partition (view t) p).up)) why w
 
-  module _ (p : ℕ) (h : p < t.count) (b : Bool) (e : b ≡ (partition_at t p).up) where
-    pub crash-down : b ≡ false → a ≡ refused_with t Down → a ≡ stored t (crash (view t) p)
+        pub cut-done : (partition_at t i).up ≡ true → (partition_at t j).up ≡ true → suffered t (Ok (Cut i j)) ≡ stored t (cut (view t) p q)
+        unfolding lost
+        cut-done u v = rw (e, k) (onwards _ (accepts t _ 0 None _ refl ∙ passes t _ Down _ _ (both_true (told p i e f true u) (told q j k g true v))))
+
+  -- ---- crash
+
+  module _ (p : ℕ) where
+    pub crash-outside : ltb p t.count ≡ false → (why : Refusal) → why ≡ OutOfRange → suffered t (Err why) ≡ stored t (crash (view t) p)
     unfolding crash
-    crash-down d w = w ∙ refuses t _ Down _ _ refl (told t z r p h b e ∙ d) ∙ passes t _ OutOfRange _ _ (ready-there t p z r h)
+    crash-outside f why w = ap (refused_with t) w ∙ refuses t _ OutOfRange _ _ refl (apart p false f)
 
-    pub crash-done : b ≡ true → a ≡ accepted_with (pack (lost (Crash p) (view t))) 0 None → a ≡ stored t (crash (view t) p)
-    unfolding crash lost
-    crash-done d w = w ∙ accepts t _ 0 None _ refl ∙ passes t _ Down _ _ (told t z r p h b e ∙ d) ∙ passes t _ OutOfRange _ _ (ready-there t p z r h)
+    module _ (f : ltb p t.count ≡ true) (i : ℕ) (e : i ≡ p) where
+      pub crash-down : (partition_at t i).up ≡ false → (why : Refusal) → why ≡ Down → suffered t (Err why) ≡ stored t (crash (view t) p)
+      unfolding crash
+      crash-down u why w = ap (refused_with t) w ∙ refuses t _ Down _ _ refl (told p i e f false u) ∙ passes t _ OutOfRange _ _ (apart p true f)
+
+      pub crash-done : (partition_at t i).up ≡ true → suffered t (Ok (Crash i)) ≡ stored t (crash (view t) p)
+      unfolding crash lost
+      crash-done u = rw e (accepts t _ 0 None _ refl ∙ passes t _ Down _ _ (told p i e f true u) ∙ passes t _ OutOfRange _ _ (apart p true f))
+
+module _ (t : Tables) (z : Sized t) (r : Ready t) (a : Answered) where
+  -- ---- recover: whether partition p is there, by the test b
+
+  pub recover-outside : (p : ℕ) (b : Bool) → b ≡ ltb p t.count → b ≡ false → a ≡ refused_with t OutOfRange → a ≡ stored t (recover (view t) p)
+  unfolding recover
+  recover-outside p b e f k = k ∙ refuses t _ OutOfRange _ _ refl (ready-test t p z r b e ∙ f)
 
   -- ---- recover of partition p, which was read as x
 
@@ -117,15 +120,6 @@ module _ (t : Tables) (z : Sized t) (r : Ready t) (p : ℕ) (h : p < t.count) (x
       let k : x ≡ pack_partition (partition (view t) p) = e ∙ partition-stored t p (ready-stored t p z r h) in
       changed-to t p (ready-stored t p z r h) _ (with_up true (partition (view t) p)) (rw k refl) 0 None c w
       ∙ passes t _ IsUp _ _ (ap not (read_up t p z r h x e ∙ d)) ∙ passes t _ OutOfRange _ _ (ready-there t p z r h)
-
--- ---- what a fault does is stored
-
-module _ (t : Tables) (a : Answered) (f : Fault) where
-  pub suffers-refusal : (why : Refusal) → f ≡ Refused why → a ≡ refused_with t why → a ≡ suffered t f
-  suffers-refusal why e w = rw e w
-
-  pub suffers-loss : (loss : Loss) (u : Tables) → f ≡ Loses loss → u ≡ pack (lost loss (view t)) → a ≡ accepted_with u 0 None → a ≡ suffered t f
-  suffers-loss loss u e g w = rw (e, ← g) w
 
 -- ---- open, by the test b of the count
 
@@ -145,14 +139,6 @@ module _ (t : Tables) (k : ℕ) (b : Bool) (e : b ≡ (leb 1 k && leb k max_part
     pub open_done : (u : Tables) → b ≡ true → u ≡ pack (fresh k) → a ≡ accepted_with u 0 None → a ≡ called t (opening k)
     unfolding open_tables
     open_done u f v w = w ∙ accepts t u 0 None _ v ∙ passes t _ OutOfRange _ _ (sym e ∙ f) ∙ untested
-
-pub ruleset cuts = (cut-outside, cut-beyond, cut-itself, ne_eqb)
-
-pub ruleset cuts-there = (cut_down, cut-far-down, cut-done)
-
-pub ruleset crashes = (crash-outside, crash-down, crash-done)
-
-pub ruleset suffering = (suffers-refusal, suffers-loss)
 
 pub ruleset recovers = (recover-outside, recover-up, recover-done)
 

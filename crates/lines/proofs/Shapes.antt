@@ -12,13 +12,16 @@ use Rattle.lists.proofs.Members.{all-get}
 use Rattle.lists.proofs.Tests.{below_at, no_true, not-true}
 use Rattle.names.specs.Names.{same_bytes}
 use Rattle.names.proofs.Laws.{bytes-true}
-use Rattle.rehearsal.specs.Line.{Row, a_number, bears, max_words, no_row, row_for, table}
+use Rattle.rehearsal.specs.Line.{Row, a_number, bears, first_row, max_words, no_row, row_for, table}
 use Rattle.rehearsal.proofs.Rows.{row-cases, tabled}
-use Rattle.lines.specs.Places.{Shape, is_name, nameplace, shape_of}
+use Rattle.std.specs.Option.{option_eq}
+use Rattle.std.specs.Prelude.{Option, Some, None}
+use native.Mathlib.Omega.{arith}
+use Rattle.lines.specs.Places.{Shape, first_shape, is_name, nameplace, row_found, shape_of}
 
 -- the table, its search and its shapes opened: a proof that names it computes with them
 unfoldable pub shaped : Unit {0}
-unfolding tabled below nameplace
+unfolding tabled below nameplace row_found
 shaped = tt
 
 -- a test that every row passes, and the one that stands for none
@@ -41,16 +44,24 @@ same_true true false e = no_true e refl
 same_true false true e = no_true e refl
 same_true false false e = refl
 
+-- whether the name stands at this place
+abbrev pub stands_at : ℕ → Option ℕ → Bool
+stands_at k o = option_eq eqb o (Some k)
+
 named_well : Row → Bool
-named_well r = below (length r.forms) (λ k. same (is_name (get_or r.forms k a_number)) (eqb k (nameplace r.forms)))
+named_well r = below (length r.forms) (λ k. same (is_name (get_or r.forms k a_number)) (stands_at k (nameplace r.forms)))
 
 rows_named : (w : List ℕ) → named_well (row_for w) ≡ true
 unfolding shaped named_well same
 rows_named w = of_row named_well refl refl w
 
-pub row_named : (w : List ℕ) (k : ℕ) → k < length (row_for w).forms → is_name (get_or (row_for w).forms k a_number) ≡ eqb k (nameplace (row_for w).forms)
+pub row_named : (w : List ℕ) (k : ℕ) → k < length (row_for w).forms
+    → is_name (get_or (row_for w).forms k a_number) ≡ stands_at k (nameplace (row_for w).forms)
 unfolding named_well
-row_named w k h = same_true _ _ (below_at (length (row_for w).forms) (λ k. same (is_name (get_or (row_for w).forms k a_number)) (eqb k (nameplace (row_for w).forms))) (rows_named w) k h)
+row_named w k h =
+    same_true _ _
+    (below_at (length (row_for w).forms) (λ k. same (is_name (get_or (row_for w).forms k a_number)) (stands_at k (nameplace (row_for w).forms)))
+    (rows_named w) k h)
 
 -- ---- a first word that is no letter has no row
 alone : Row → Bool
@@ -67,8 +78,8 @@ row_other w h =
     (λ r m b. absurd (h (ap length (sym (bytes-true r.letter w b)) ∙ eqb-true _ _ (all-get alone table rows-alone r m))))
 
 -- ---- `shape_of`: a letter that is given, and one that is none of the table's
-pub by-letter : (b x : ℕ) (r : Shape) → b ≡ x → r ≡ shape_of (row_for (x ∷ [])) → r ≡ shape_of (row_for (b ∷ []))
-by-letter b x r e h = rw e h
+pub by-letter : (b x : ℕ) (r y : Shape) → b ≡ x → r ≡ y → Some y ≡ row_found (x ∷ []) → Some r ≡ row_found (b ∷ [])
+by-letter b x r y e f h = rw (e, f) h
 
 module _ (b : ℕ) where
   -- b is no letter of these rows, in the words in which a `match` tells it
@@ -89,6 +100,23 @@ module _ (b : ℕ) where
       keep-cons-other (bears (b ∷ [])) rs r (unlike r.letter (earlier (before × (b ≡ get_or r.letter 0 0 → ⊥)) rs h).1)
       ∙ kept-none (before × (b ≡ get_or r.letter 0 0 → ⊥)) rs h
 
-  pub by-none : NoneOf Unit table → (r : Shape) → r ≡ shape_of no_row → r ≡ shape_of (row_for (b ∷ []))
-  unfolding row_for
-  by-none h r e = rw (kept-none Unit table h) e
+  pub by-none : NoneOf Unit table → None ≡ row_found (b ∷ [])
+  unfolding row_found
+  by-none h = rw (kept-none Unit table h) refl
+
+-- ---- what a row that was found, or none, says of the row
+found-is : (o : List Row) (r : Shape) → Some r ≡ first_shape o → r ≡ shape_of (first_row o)
+found-is [] r e = cc
+found-is (x ∷ o) r e = cc
+
+found-none : (o : List Row) → None ≡ first_shape o → first_row o ≡ no_row
+found-none [] e = refl
+found-none (x ∷ o) e = let z : ◌≡◌ {A = ℕ} 0 1 = cc in absurd (omega arith)
+
+pub row_of : (w : List ℕ) (r : Shape) → Some r ≡ row_found w → r ≡ shape_of (row_for w)
+unfolding row_found row_for
+row_of w r e = found-is (keep (bears w) table) r e
+
+pub row_none : (w : List ℕ) → None ≡ row_found w → row_for w ≡ no_row
+unfolding row_found row_for
+row_none w e = found-none (keep (bears w) table) e

@@ -1,18 +1,19 @@
 -- Reading a number: the loop over its digits, and what comes before it.
-use mathlib.Core.Bool.{Bool, ◌&&◌, and-false, false, true}
+use mathlib.Core.Bool.{◌&&◌, and-false, false, true}
 use mathlib.Core.List.{List, [], ◌∷◌}
 use mathlib.Core.Path.{◌∙◌, ◌≡◌, refl, sym}
-use Prim.Native.Nat.{◌*◌, ◌+◌, ◌-◌, ◌<◌, ◌≤◌, suc, ℕ}
+use Prim.Native.Nat.{◌*◌, ◌+◌, ◌-◌, ◌<◌, ◌^◌, ◌≤◌, ℕ}
+use native.Mathlib.Numerals.{add-one}
 use native.Mathlib.Omega.{arith}
 use lib.Dec.{leb}
-use lib.ListN.{drop, get_or, length}
-use borrow.Author.Tests.{le-leb, leb-false, leb-true, lt-leb}
+use lib.ListN.{drop, drop_of_length-le, get_or, length}
+use lib.Seq.{drop-cons}
+use borrow.Author.Tests.{le-leb, lt-leb}
+use Rattle.std.specs.Prelude.{Option, Some, None}
 use Rattle.lists.specs.Lists.{all, pick}
-use Rattle.lists.proofs.Tests.{and_left, and_right, by_test, no_true}
 use Rattle.protocol.specs.Bounds.{largest_number}
-use Rattle.rehearsal.specs.Line.{base, digit_nine, digit_zero, is_digit, is_number, space, starts_well, up_to, value_after}
-use Rattle.lines.specs.Places.{None, Number, Value, digits_at, number_at}
-use Rattle.lines.proofs.Words.{word_more, word-past, word-stop}
+use Rattle.rehearsal.specs.Line.{base, digit_zero, is_digit, value_after}
+use Rattle.lines.specs.Places.{digits_in}
 
 -- digits make a value no smaller
 grows : (v : ℕ) (w : List ℕ) → v ≤ value_after v w
@@ -20,86 +21,54 @@ unfolding value_after
 grows v [] = omega arith
 grows v (b ∷ w) = let h = grows (v * base + (b - digit_zero)) w in omega arith
 
--- digits w behind others of the value v, up to the place behind them; w starts at the place i
-unfoldable pub number_on : ℕ → List ℕ → ℕ → Number
-number_on v w i = pick (all is_digit w && leb (value_after v w) largest_number) (Value (value_after v w) (i + length w)) None
+-- the value of digits w behind others of the value v
+unfoldable pub digits_on : ℕ → List ℕ → Option ℕ
+digits_on v w = pick (all is_digit w && leb (value_after v w) largest_number) (Some (value_after v w)) None
 
-pub digit-least : (b : ℕ) (d : Bool) → d ≡ is_digit b → d ≡ true → digit_zero ≤ b
-digit-least b d e z = leb-true _ _ (and_left _ _ (sym e ∙ z))
-
-pub digit-most : (b : ℕ) (d : Bool) → d ≡ is_digit b → d ≡ true → b ≤ digit_nine
-digit-most b d e z = leb-true _ _ (and_right (leb digit_zero b) _ (sym e ∙ z))
-
-module _ (Q : Number) (s : List ℕ) where
+module _ (w : List ℕ) where
   -- what was read makes v, and is no larger than it may be
-  pub record Valuing (v at : ℕ) : Type 0 where
-    pub within : at ≤ length s
+  pub record Valuing (v i : ℕ) : Type 0 where
     pub small : v ≤ largest_number
-    pub left : Q ≡ number_on v (up_to space (drop at s)) at
+    pub left : digits_in w ≡ digits_on v (drop i w)
 
-  module _ (v at : ℕ) (r : Valuing v at) where
-    stopped : up_to space (drop at s) ≡ [] → Value v at ≡ Q
-    unfolding number_on all value_after
-    stopped e = let p : at + 0 ≡ at = omega arith in sym (r.left ∙ rw (e, le-leb _ _ r.small, p))
+  pub value-start : Valuing 0 0
+  unfolding digits_on
+  value-start = record { small = omega arith; left = refl }
 
-    pub value-past : length s ≤ at → Value v at ≡ Q
-    value-past h = stopped (word-past space s at h)
+  module _ (v i : ℕ) (r : Valuing v i) where
+    pub value-done : length w ≤ i → Some v ≡ digits_in w
+    unfolding digits_on all value_after
+    value-done h = sym (r.left ∙ rw (drop_of_length-le w h, le-leb _ _ r.small))
 
-    module _ (h : at < length s) where
-      pub value-stop : get_or s at 0 ≡ space → Value v at ≡ Q
-      value-stop e = stopped (word-stop space s at h e)
+    module _ (h : i < length w) where
+      here : drop i w ≡ get_or w i 0 ∷ drop (i + 1) w
+      here = rw (add-one i, drop-cons w i 0 h)
 
-      module _ (n : get_or s at 0 ≡ space → ⊥) (d : Bool) (e : d ≡ is_digit (get_or s at 0)) where
-        pub value_none : d ≡ false → None ≡ Q
-        unfolding number_on all
-        value_none z = sym (r.left ∙ rw (word_more space s at h n, ← e, z))
+      pub value-none : is_digit (get_or w i 0) ≡ false → None ≡ digits_in w
+      unfolding digits_on all
+      value-none z = sym (r.left ∙ rw (here, z))
 
-        module _ (z : d ≡ true) where
-          abbrev on : ℕ
-          on = v * base + (get_or s at 0 - digit_zero)
+      module _ (z : is_digit (get_or w i 0) ≡ true) where
+        abbrev on : ℕ
+        on = v * base + (get_or w i 0 - digit_zero)
 
-          large : largest_number < on → None ≡ Q
-          unfolding number_on all value_after
-          large g =
-              let w = up_to space (drop (at + 1) s) in
-              let k = grows on w in
-              let f : leb (value_after on w) largest_number ≡ false = lt-leb (value_after on w) largest_number (omega arith) in
-              sym (r.left ∙ rw (word_more space s at h n, ← e, z, f, and-false))
+        pub value-large : largest_number < on → None ≡ digits_in w
+        unfolding digits_on all value_after
+        value-large g =
+            let k = grows on (drop (i + 1) w) in
+            let f : leb (value_after on (drop (i + 1) w)) largest_number ≡ false = lt-leb _ _ (omega arith) in
+            sym (r.left ∙ rw (here, z, f, and-false))
 
-          more : on ≤ largest_number → Valuing on (at + 1)
-          unfolding number_on all value_after
-          more g =
-              let w = up_to space (drop (at + 1) s) in
-              let p : at + suc (length w) ≡ at + 1 + length w = omega arith in
-              record { within = omega arith; small = g; left = r.left ∙ rw (word_more space s at h n, ← e, z, p) }
+        pub value-more : on ≤ largest_number → Valuing on (i + 1)
+        unfolding digits_on all value_after
+        value-more g = record { small = g; left = r.left ∙ rw (here, z) }
 
-          module _ (x : ℕ) (t : x ≡ get_or s at 0 - digit_zero) where
-            pub value-large : largest_number < v * base + x → None ≡ Q
-            value-large g = large (rw t at g)
+        -- in the words of the code: m is ten times the value, x the digit
+        module _ (m x : ℕ) (e : m ≡ v * base) (f : x ≡ get_or w i 0 - digit_zero) where
+          pub value-over : (m + x < 2 ^ 32 → ⊥) → None ≡ digits_in w
+          value-over g = value-large (omega arith)
 
-            pub value-more : v * base + x ≤ largest_number → Valuing (v * base + x) (at + 1)
-            value-more g = rw t (more (rw t at g))
+          pub value-next : (y : ℕ) → m + x < 2 ^ 32 → y ≡ m + x → Valuing y (i + 1)
+          value-next y g h = let q : v * base + (get_or w i 0 - digit_zero) ≡ y = omega arith in rw q at (value-more (omega arith))
 
-pub value-start : (s : List ℕ) (from : ℕ) → from ≤ length s → Valuing (digits_at s from) s 0 from
-unfolding number_on
-value-start s from h = record { within = h; small = omega arith; left = refl }
-
-pub ruleset valuing = (value-start, value-past, value-stop, value_none, value-large, value-more, digit-least, digit-most)
-
--- ---- `number_at`
-module _ (s : List ℕ) (from : ℕ) (b : Bool) (e : b ≡ starts_well (up_to space (drop from s))) where
-  pub number-not : b ≡ false → None ≡ number_at s from
-  unfolding is_number
-  number-not z = simp (← e, z)
-
-  pub number-then : b ≡ true → (r : Number) → r ≡ digits_at s from → r ≡ number_at s from
-  unfolding is_number
-  number-then z r t = simp (← e, z) t
-
-  pub number-inside : b ≡ true → from ≤ length s
-  number-inside z =
-      by_test (leb from (length s))
-      (λ t. leb-true _ _ t)
-      (λ t. let h : length s < from = leb-false _ _ t in no_true (sym e ∙ z) (rw (word-past space s from (omega arith))))
-
-pub ruleset numbering = (number-not, number-then, number-inside)
+pub ruleset valuing = (value-start, value-done, value-none, value-large, value-more)

@@ -1,30 +1,32 @@
 -- Load: a law for each way through the code.
 use mathlib.Core.Bool.{Bool, ◌&&◌, false, not, true}
-use mathlib.Core.List.{List, []}
+use mathlib.Core.List.{List}
 use mathlib.Core.Path.{◌∙◌, ◌≡◌, ap, refl, sym}
 use Prim.Native.Nat.{◌<◌, ℕ}
 use lib.Dec.{eqb, ltb}
-use borrow.Author.Tests.{eq-eqb, ne_eqb}
 use Rattle.protocol.specs.Answers.{check}
-use Rattle.protocol.specs.Elements.{is_accepted, refusal_number}
+use Rattle.protocol.specs.Elements.{is_accepted}
+use Rattle.protocol.specs.declared.Reply.TheVariants.{None}
 use Rattle.protocol.specs.Order.{in_order}
-use Rattle.protocol.specs.Tables.{is_partition, partition_count, set_partition, Partition as Part}
+use Rattle.protocol.specs.Tables.{is_partition, partition_count, set_partition}
 use Rattle.protocol.specs.declared.Refusal.{Refusal}
 use Rattle.protocol.specs.declared.Refusal.TheVariants.{FieldOutOfRange, IsUp, OutOfOrder, OutOfRange}
-use Rattle.tables.specs.View.{Sized, pack_partition, partition_at, shaped, view, view_partition}
+use Rattle.tables.specs.View.{Sized, pack, pack_partition, partition_at, shaped, view, view_partition}
 use Rattle.tables.specs.declared.Partition.{Partition}
 use Rattle.tables.specs.declared.Tables.{Tables}
 use Rattle.answers.specs.Called.{Ready, refused_with, stored, tested}
 use Rattle.answers.specs.declared.Answered.{Answered}
-use Rattle.picture.specs.Answers.{Pictured, no_picture, read_or, told_picture}
-use Rattle.picture.specs.Picture.{first, read}
-use Rattle.picture.specs.Rows.{fail, more}
+use Rattle.std.specs.Prelude.{Err, Ok}
+use Rattle.lists.specs.Lists.{pick}
+use Rattle.picture.specs.Answers.{Pictured, picture_read}
+use Rattle.picture.specs.Picture.{Picture, first, head_of, read}
+use Rattle.picture.specs.Rows.{Read, fail, more}
 use Rattle.picture.specs.Store.{load, load_read, load_tables}
 use Rattle.picture.specs.declared.Head.{Head}
-use Rattle.picture.specs.declared.PictureRead.{PictureRead}
+use Rattle.picture.specs.declared.Picture.{Picture as Shown}
 use Rattle.loading.specs.Loaded.{loaded, replaced, shown_by}
 use Rattle.lists.proofs.Tests.{by_test}
-use Rattle.tables.proofs.Packs.{partition-unpack}
+use Rattle.tables.proofs.Packs.{pack-view, partition-unpack}
 use Rattle.answers.proofs.Ways.{now-four, now-there}
 use Rattle.answers.proofs.Ways.{now-ready, passes, read_up, ready-test, ready-view, refuses, test-fails, test-passes}
 
@@ -53,29 +55,26 @@ pub ruleset shows = (load-another, load_up, load-down)
 -- ---- what the reader says of the bytes
 
 -- the tables that it gives are in their stored form
-pub read-stored : (bs : List ℕ) (q : PictureRead) → Pictured bs q → (y : Partition) → y ≡ q.tables → pack_partition (view_partition y) ≡ y
-read-stored bs q s y e =
-    let x : Part = (read_or no_picture (read first bs)).tables in
-    let f : y ≡ pack_partition x = e ∙ ap (λ (o : PictureRead). o.tables) s.answer in
-    rw f (ap pack_partition (partition-unpack x))
+pub read-stored : (bs : List ℕ) (q : Shown) → Pictured bs (Ok q) → pack_partition (view_partition q.tables) ≡ q.tables
+read-stored bs q s = over (read first bs) s.answer
+  where
+    over : (R : Read Picture) → Ok q ≡ picture_read R → pack_partition (view_partition q.tables) ≡ q.tables
+    over (fail why) e = cc
+    over (more x r) e =
+        let g : q ≡ record { head = head_of x; tables = pack_partition x.tables } = cc in
+        let f : q.tables ≡ pack_partition x.tables = ap (λ (o : Shown). o.tables) g in
+        rw f (ap pack_partition (partition-unpack x.tables))
 
-module _ (t : Tables) (p : ℕ) (bs : List ℕ) (q : PictureRead) (s : Pictured bs q) (k : Refusal) (j : k ≡ q.refusal) (n : ℕ) (e : n ≡ refusal_number k) (a : Answered) where
-  verdict : (c : Bool) → eqb n 0 ≡ c → is_accepted q.refusal ≡ c
-  verdict c f = ap is_accepted (sym j) ∙ ap (λ (i : ℕ). eqb i 0) (sym e) ∙ f
+module _ (t : Tables) (p : ℕ) (bs : List ℕ) (a : Answered) where
+  pub load-unread : Sized t → Ready t → (why : Refusal) → Pictured bs (Err why) → a ≡ refused_with t why → a ≡ stored t (load_read (view t) p (read first bs))
+  unfolding load_read stored
+  load-unread z r why s w =
+      let k : pick (is_accepted why) (pack (view t)) t ≡ t = by_test (is_accepted why) (λ f. rw f (pack-view t z r.shaped)) (λ f. rw f refl) in
+      w ∙ rw (← s.telling) (ap (λ (u : Tables). record { answer = record { refusal = why; number = 0; reply = None }; tables = u }) (sym k))
 
-  pub load-unread : (n ≡ 0 → ⊥) → a ≡ refused_with t k → a ≡ stored t (load_read (view t) p (read first bs))
-  unfolding load_read told_picture stored
-  load-unread f w =
-      let v : is_accepted q.refusal ≡ false = verdict false (ne_eqb n 0 f) in
-      let g : read first bs ≡ fail q.refusal = sym s.telling ∙ rw v refl in
-      w ∙ rw (g, j, v) refl
-
-  pub loads_read : n ≡ 0 → (i : Head) → i ≡ q.head → (y : Partition) → y ≡ q.tables → a ≡ stored t (load_tables (view t) p (shown_by i y)) → a ≡ stored t (load_read (view t) p (read first bs))
-  unfolding load_read told_picture
-  loads_read f i hi y hy w =
-      let v : is_accepted q.refusal ≡ true = verdict true (eq-eqb n 0 f) in
-      let g : read first bs ≡ more (shown_by q.head q.tables) [] = sym s.telling ∙ rw v refl in
-      w ∙ rw (g, hi, hy) refl
+  pub loads_read : (q : Shown) → Pictured bs (Ok q) → a ≡ stored t (load_tables (view t) p (shown_by q.head q.tables)) → a ≡ stored t (load_read (view t) p (read first bs))
+  unfolding load_read
+  loads_read q s w = w ∙ rw (← s.telling) refl
 
 pub ruleset readings = (read-stored, load-unread, loads_read)
 

@@ -1,11 +1,10 @@
 -- What a cut or a crash leaves of tables that passed the test, in plain variables.
-use mathlib.Core.Bool.{Bool, ◌&&◌, and-false, and-true, false, not, true}
+use mathlib.Core.Bool.{Bool, and-false, and-true, false, true}
 use mathlib.Core.List.{List, [], map}
 use mathlib.Core.Path.{◌∙◌, ◌≡◌, ap, refl, sym}
 use Prim.Native.Nat.{◌%◌, ◌+◌, ◌/◌, ◌<◌, ◌≤◌, ℕ}
 use native.Mathlib.Omega.{arith}
-use borrow.Author.Tests.{eq-eqb, ne_eqb}
-use lib.Dec.{eqb}
+use borrow.Author.Tests.{eq-eqb}
 use lib.ListN.{get_or, length, length-map, set}
 use Rattle.lists.specs.Lists.{map_from, map_if, pad, pick}
 use Rattle.protocol.specs.Bounds.{max_partitions, max_records, queue_count}
@@ -15,13 +14,11 @@ use Rattle.protocol.specs.declared.Message.{Message}
 use Rattle.protocol.specs.declared.Record.{Record}
 use Rattle.protocol.specs.declared.Stage.TheVariants.{Ready as ReadyStage}
 use Rattle.tables.specs.Slots.{no_record, zero_record}
-use Rattle.tables.specs.View.{Sized, no_partition, no_queue, pack, pack_partition, pack_queue, pack_records, partition_at, records_of, view, view_partition, zero_partition}
+use Rattle.tables.specs.View.{Sized, no_partition, no_queue, pack, pack_partition, pack_queue, pack_records, partition_at, records_of, view, view_partition, zero_partition, Records, Queue}
 use Rattle.tables.specs.declared.Partition.{Partition}
-use Rattle.tables.specs.declared.Queue.{Queue}
-use Rattle.tables.specs.declared.Records.{Records}
 use Rattle.tables.specs.declared.Tables.{Tables}
 use Rattle.answers.specs.Called.{Ready}
-use Rattle.losses.specs.Lost.{Loss, empties_of, lost, partition_after, queue_after, relapses_of, up_after}
+use Rattle.losses.specs.Lost.{Loss, empties_of, lost, partition_after, queue_after, relapses_of}
 use Rattle.losses.specs.declared.Loss.TheVariants.{Crash, Cut}
 use Rattle.lists.proofs.Keep.{length-map_from, length-map_if}
 use Rattle.tables.proofs.Packs.{pack-view, partition-pack, partition-unpack, shaped-all}
@@ -30,22 +27,10 @@ use Rattle.answers.proofs.Ways.{read-four, ready-count, ready-view}
 
 -- ---- what is in its stored form
 
-pub records-packed : (x : Partition) → pack_partition (view_partition x) ≡ x → pack_records (records_of x.records) ≡ x.records
-records-packed x e = ap (λ (y : Partition). y.records) e
-
 pub place-packed : (t : Tables) → Sized t → Ready t → (i : ℕ) (x : Partition) → i < t.count → x ≡ partition_at t i → pack_partition (view_partition x) ≡ x
 place-packed t z r i x h e =
     let g = read-four t i z r h in
     rw e (partition-pack (partition_at t i) (z.partition i g) ((shaped-all t z r.shaped).partition i g))
-
--- ---- whether partition p is up after a crash of q
-
-module _ (q p : ℕ) (up : Bool) where
-  pub up-fallen : p ≡ q → false ≡ (up && not (eqb p q))
-  up-fallen e = rw (eq-eqb p q e, and-false up) refl
-
-  pub up-beside : (p ≡ q → ⊥) → up ≡ (up && not (eqb p q))
-  up-beside e = rw (ne_eqb p q e, and-true up) refl
 
 -- what is lost, place by place
 lost-parts : (loss : Loss) (m : Model) → lost loss m ≡ record { partitions = map_from (partition_after loss) 0 m.partitions; queues = map_from (drained (empties_of loss)) 0 m.queues }
@@ -81,14 +66,6 @@ module _ (loss : Loss) where
       → Mapping (leaves p) l.items i ys → i < l.count → l.count ≤ max_records → x ≡ get_or l.items i no_record
       → v ≡ pick (relapses_of loss p x) (in_stage ReadyStage x) x → Mapping (leaves p) l.items (i + 1) (set ys i v)
   records-turn p l i ys x v n s h g e c = mapping-turn (leaves p) l.items no_record i ys s (omega arith) x v e c
-
-  -- ---- one partition
-
-  pub partition-left : (p : ℕ) (x : Partition) (u : Bool) (l : Records) → pack_partition (view_partition x) ≡ x → u ≡ up_after loss p x.up
-      → l ≡ pack_records (map_if (relapses_of loss p) (in_stage ReadyStage) (records_of x.records))
-      → record { up = u; last = x.last; entries = x.entries; backpointers = x.backpointers; records = l } ≡ pack_partition (partition_after loss p (view_partition x))
-  partition-left p x u l e g h =
-      λ j. record { up = g j; last = x.last; entries = (sym e j).entries; backpointers = (sym e j).backpointers; records = h j }
 
   -- ---- all partitions, and all queues
 
@@ -159,11 +136,7 @@ module _ (loss : Loss) where
       pub queue-stays : (l : List Queue) → b ≡ false → l ≡ ys → Mapping (queue_after loss) xs (i + 1) l
       queue-stays l f w = rw w (mapping-keep (queue_after loss) xs no_queue i ys s among (rw (← e, f) refl))
 
-pub ruleset falls = (up-fallen, up-beside)
-
 pub ruleset records-lost = (mapping-start, records-turn, records-left)
-
-pub ruleset partition-lost = (records-packed, partition-left)
 
 pub ruleset partitions-lost = (mapping-start, place-left, place-packed, partitions-turn, partitions-left)
 

@@ -5,8 +5,7 @@ use Rattle.protocol.specs.Bounds.{max_partitions}
 use Rattle.protocol.specs.Faults.{between, falls_with, lose, relapsed, sent_between, touches}
 use Rattle.protocol.specs.Tables.{Model, Partition, set_up, with_up}
 use Rattle.protocol.specs.declared.Record.{Record}
-use Rattle.tables.specs.View.{pack_queue}
-use Rattle.tables.specs.declared.Queue.{Queue}
+use Rattle.tables.specs.View.{pack_queue, Queue}
 pub use Rattle.losses.specs.declared.Loss.{Loss}
 use Rattle.losses.specs.declared.Loss.TheVariants.{Crash, Cut}
 

@@ -1,7 +1,7 @@
 // What a cut or a crash loses: records that relapse to ready, and queues that empty (document 01, 'The nine events', 6 and 7).
 #![tactic(auto)]
 
-ghost use Rattle.std.specs.Prelude.{◌&&◌, not, map, ◌≡◌, ◌≤◌, eqb};
+ghost use Rattle.std.specs.Prelude.{◌&&◌, map, ◌≡◌, ◌≤◌, eqb};
 ghost use Rattle.lists.specs.Lists.{map_from, map_if, pad, pick};
 ghost use Rattle.protocol.specs.Bounds.{max_partitions, max_records};
 ghost use Rattle.protocol.specs.Elements.{is_sent};
@@ -24,34 +24,19 @@ pub enum Loss {
 
 // ---- which queues empty, and which records relapse
 
-fn is_pair(s: usize, r: usize, a: usize, b: usize) -> bool
-    ensures { result ≡ (eqb s a && eqb r b) }
-{
-    if s == a {} else {
-        return false;
-    }
-    r == b
-}
-
 fn between(a: usize, b: usize, s: usize, r: usize) -> bool
     ensures { result ≡ between a b s r }
 {
-    if is_pair(s, r, a, b) {
-        return true;
-    }
-    is_pair(s, r, b, a)
+    (s == a && r == b) || (s == b && r == a)
 }
 
 fn touches(p: usize, s: usize, r: usize) -> bool
     ensures { result ≡ touches p s r }
 {
-    if s == p {
-        return true;
-    }
-    r == p
+    s == p || r == p
 }
 
-// Whether the queue from s to r empties.
+// Whether the queue from s to r empties, and below whether a record relapses: two questions about one loss.
 fn empties(loss: Loss, s: usize, r: usize) -> bool
     ensures { result ≡ empties_of loss s r }
 {
@@ -64,30 +49,19 @@ fn empties(loss: Loss, s: usize, r: usize) -> bool
 fn sent_between(a: usize, b: usize, p: usize, r: Record) -> bool
     ensures { result ≡ sent_between a b p r }
 {
-    let stage = r.stage;
-    if elements::is_sent(stage) {} else {
-        return false;
-    }
-    between(a, b, p, r.partition as usize)
+    elements::is_sent(r.stage) && between(a, b, p, r.partition as usize)
 }
 
 fn sent_to(p: usize, r: Record) -> bool
     ensures { result ≡ (is_sent r.stage && eqb r.partition p) }
 {
-    let stage = r.stage;
-    if elements::is_sent(stage) {} else {
-        return false;
-    }
-    r.partition as usize == p
+    elements::is_sent(r.stage) && r.partition as usize == p
 }
 
 fn falls_with(p: usize, q: usize, r: Record) -> bool
     ensures { result ≡ falls_with p q r }
 {
-    if q == p {
-        return true;
-    }
-    sent_to(p, r)
+    q == p || sent_to(p, r)
 }
 
 // Whether partition p's record r relapses.
@@ -106,39 +80,23 @@ fn relapses(loss: Loss, p: usize, r: Record) -> bool
 fn record_after(loss: Loss, p: usize, r: Record) -> Record
     ensures { result ≡ pick (relapses_of loss p r) (in_stage ReadyStage r) r }
 {
-    if relapses(loss, p, r) {} else {
-        return r;
+    if relapses(loss, p, r) {
+        return advances::in_stage(Stage::Ready, r);
     }
-    advances::in_stage(Stage::Ready, r)
+    r
 }
 
+// By places, as the other losses: each place is written from what stood there.
 fn relapse_records(loss: Loss, p: usize, l: Records) -> Records
     requires { (pack_records (records_of l) ≡ l) × (l.count ≤ max_records) }
     ensures { result ≡ pack_records (map_if (relapses_of loss p) (in_stage ReadyStage) (records_of l)) }
 {
-    let count = l.count;
     let mut items = l.items;
-    let mut i: usize = 0;
-    while i < count {
-        let item = l.items[i];
-        let after = record_after(loss, p, item);
-        items[i] = after;
-        i += 1;
+    // by place, as the losses below, which ask which place it is: one law serves the three loops
+    for i in 0..l.count {
+        items[i] = record_after(loss, p, l.items[i]);
     }
-    Records {
-        count: count,
-        items: items,
-    }
-}
-
-// Whether partition p is up, if it was or not, after a crash of q.
-fn stays_up(q: usize, p: usize, up: bool) -> bool
-    ensures { result ≡ (up && not (eqb p q)) }
-{
-    if p == q {
-        return false;
-    }
-    up
+    Records { items, ..l }
 }
 
 // Whether partition p is up after the loss.
@@ -146,8 +104,8 @@ fn up_after(loss: Loss, p: usize, up: bool) -> bool
     ensures { result ≡ up_after loss p up }
 {
     match loss {
-        Loss::Cut(a, b) => up,
-        Loss::Crash(q) => stays_up(q, p, up),
+        Loss::Cut(_, _) => up,
+        Loss::Crash(q) => up && p != q,
     }
 }
 
@@ -155,12 +113,11 @@ fn partition_after(loss: Loss, p: usize, x: Partition) -> Partition
     requires { (pack_partition (view_partition x) ≡ x) × (x.records.count ≤ max_records) }
     ensures { result ≡ pack_partition (partition_after loss p (view_partition x)) }
 {
-    let up = x.up;
-    let records = x.records;
-    let mut next = x;
-    next.up = up_after(loss, p, up);
-    next.records = relapse_records(loss, p, records);
-    next
+    Partition {
+        up: up_after(loss, p, x.up),
+        records: relapse_records(loss, p, x.records),
+        ..x
+    }
 }
 
 // The partitions of t, after the loss. They are handed over beside t, to be changed where they stand.
@@ -172,14 +129,10 @@ pub fn partitions_after(
     requires { Ready t × (before ≡ t.partitions) }
     ensures { result ≡ pad max_partitions zero_partition (map pack_partition (map_from (partition_after loss) 0 (view t).partitions)) }
 {
-    let count = t.count;
     let mut partitions = before;
-    let mut i: usize = 0;
-    while i < count {
-        let x = partitions[i];
-        let after = partition_after(loss, i, x);
-        partitions[i] = after;
-        i += 1;
+    // the place says whose partition it is
+    for i in 0..t.count {
+        partitions[i] = partition_after(loss, i, partitions[i]);
     }
     partitions
 }
@@ -187,14 +140,13 @@ pub fn partitions_after(
 pub fn queues_after(loss: Loss, before: [Queue; QUEUES]) -> [Queue; QUEUES]
     ensures { result ≡ map_from (queue_after loss) 0 before }
 {
-    let none = fresh::no_messages();
+    let none = fresh::none();
     let mut queues = before;
-    let mut i: usize = 0;
-    while i < QUEUES {
+    // the place says between which partitions the queue is
+    for i in 0..QUEUES {
         if empties(loss, i / MAX_PARTITIONS, i % MAX_PARTITIONS) {
             queues[i] = none;
         }
-        i += 1;
     }
     queues
 }
@@ -203,13 +155,9 @@ pub fn lose(loss: Loss, t: Tables) -> Tables
     requires { Ready t }
     ensures { result ≡ pack (lost loss (view t)) }
 {
-    let before = t.partitions;
-    let partitions = partitions_after(loss, t, before);
-    let waiting = t.queues;
-    let queues = queues_after(loss, waiting);
     Tables {
         count: t.count,
-        partitions: partitions,
-        queues: queues,
+        partitions: partitions_after(loss, t, t.partitions),
+        queues: queues_after(loss, t.queues),
     }
 }

@@ -6,8 +6,7 @@ use Rattle.protocol.specs.Elements.{body_fits, is_request, is_sent}
 use Rattle.protocol.specs.Order.{is_answer_to, is_request_of, sent_as}
 use Rattle.protocol.specs.declared.Message.{Message}
 use Rattle.protocol.specs.declared.Record.{Record}
-use Rattle.tables.specs.View.{messages_of, shaped_queue}
-use Rattle.tables.specs.declared.Queue.{Queue}
+use Rattle.tables.specs.View.{messages_of, shaped_queue, Queue}
 
 unfoldable pub message_fine : List Record → List Record → ℕ → ℕ → Message → Bool
 message_fine xs ys s r x = body_fits x.kind x.body && pick (is_request x.body) (any (sent_as x r) xs) (any (sent_as x s) ys)

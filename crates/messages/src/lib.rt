@@ -2,187 +2,93 @@
 // are of.
 #![tactic(auto)]
 
-ghost use Rattle.std.specs.Prelude.{◌≤◌, ◌≡◌, length};
-ghost use Rattle.lists.specs.Lists.{all, any, keep};
-ghost use Rattle.protocol.specs.Bounds.{max_records, max_messages};
+ghost use Rattle.std.specs.Prelude.{◌≡◌, ◌≤◌, length};
+ghost use Rattle.std.specs.List.{filter};
+ghost use Rattle.lists.specs.Lists.{all, any};
+ghost use Rattle.protocol.specs.Bounds.{max_messages};
 ghost use Rattle.protocol.specs.Order.{matches, sent_as, is_request_of, is_answer_to};
-ghost use Rattle.tables.specs.View.{records_of, messages_of};
+ghost use Rattle.tables.specs.View.{messages_of, records_of};
 ghost use Rattle.messages.specs.Clauses.{message_fine, record_answered, pair_fine};
 
 use protocol::{Message, Record};
+use tables::elements::{body_fits, is_request, is_sent, same_kind};
 use tables::{MAX_MESSAGES, Queue, Records};
 
 // Whether a message is of a record.
-fn is_of(r: Record, x: Message) -> bool
-    ensures { result ≡ matches r x }
+fn is_of(r: &Record, x: &Message) -> bool
+    ensures { result ≡ matches r.now x.now }
 {
-    if x.number != r.number {
-        return false;
-    }
-    let k = x.kind;
-    let l = r.kind;
-    let alike = tables::elements::same_kind(k, l);
-    let m = x.name;
-    let n = r.name;
-    let named = names::same(m, n);
-    alike
-        & ((x.directory == r.directory)
-            & ((x.partition == r.partition) & ((x.object == r.object) & named)))
+    x.number == r.number
+        && same_kind(x.kind, r.kind)
+        && x.directory == r.directory
+        && x.partition == r.partition
+        && x.object == r.object
+        && names::same(x.name, r.name)
 }
 
 // Whether a record is sent, towards a partition, and the message is of it.
-fn is_sent_as(r: Record, x: Message, to: u8) -> bool
-    ensures { result ≡ sent_as x to r }
+fn is_sent_as(r: &Record, x: &Message, to: u8) -> bool
+    ensures { result ≡ sent_as x.now to r.now }
 {
-    let stage = r.stage;
-    let sent = tables::elements::is_sent(stage);
-    let same = is_of(r, x);
-    sent & ((r.partition == to) & same)
+    is_sent(r.stage) && r.partition == to && is_of(r, x)
 }
 
-fn has_record(records: Records, x: Message, to: u8) -> bool
-    requires { records.count ≤ max_records }
-    ensures { result ≡ any (sent_as x to) (records_of records) }
+fn has_record(l: &[Record], x: &Message, to: u8) -> bool
+    ensures { result ≡ any (sent_as x.now to) l.now }
 {
-    let count = records.count;
-    let mut i: usize = 0;
-    while i < count {
-        let item = records.items[i];
-        if is_sent_as(item, x, to) {
-            return true;
-        }
-        i += 1;
-    }
-    false
+    l.iter().any(|r| is_sent_as(r, x, to))
 }
 
 // Of the records xs of partition s and ys of partition r: a message on the way from s to r is of one of them.
-fn message_in_order(xs: Records, ys: Records, s: u8, r: u8, x: Message) -> bool
-    requires { (xs.count ≤ max_records) × (ys.count ≤ max_records) }
-    ensures { result ≡ message_fine (records_of xs) (records_of ys) s r x }
+fn message_in_order(xs: &[Record], ys: &[Record], s: u8, r: u8, x: &Message) -> bool
+    ensures { result ≡ message_fine xs.now ys.now s r x.now }
 {
-    let body = x.body;
-    let kind = x.kind;
-    if tables::elements::body_fits(kind, body) {} else {
+    if !body_fits(x.kind, x.body) {
         return false;
     }
-    if tables::elements::is_request(body) {
-        return has_record(xs, x, r);
+    if is_request(x.body) {
+        has_record(xs, x, r)
+    } else {
+        has_record(ys, x, s)
     }
-    has_record(ys, x, s)
 }
 
-fn messages_in_order(xs: Records, ys: Records, s: u8, r: u8, q: Queue) -> bool
-    requires { (xs.count ≤ max_records) × (ys.count ≤ max_records) × (q.count ≤ max_messages) }
-    ensures { result ≡ all (message_fine (records_of xs) (records_of ys) s r) (messages_of q) }
+fn messages_in_order(xs: &[Record], ys: &[Record], s: u8, r: u8, q: &[Message]) -> bool
+    ensures { result ≡ all (message_fine xs.now ys.now s r) q.now }
 {
-    let count = q.count;
-    let mut i: usize = 0;
-    while i < count {
-        let item = q.items[i];
-        if message_in_order(xs, ys, s, r, item) {
-            i += 1;
-        } else {
-            return false;
-        }
-    }
-    true
+    q.iter().all(|x| message_in_order(xs, ys, s, r, x))
 }
 
-// An empty queue is not handed on: a queue is some six hundred bytes.
-fn queue_in_order(xs: Records, ys: Records, s: u8, r: u8, q: Queue) -> bool
-    requires { (xs.count ≤ max_records) × (ys.count ≤ max_records) × (q.count ≤ max_messages) }
-    ensures { result ≡ all (message_fine (records_of xs) (records_of ys) s r) (messages_of q) }
+fn is_request_of(r: &Record, x: &Message) -> bool
+    ensures { result ≡ is_request_of r.now x.now }
 {
-    if q.count == 0 {
-        return true;
-    }
-    messages_in_order(xs, ys, s, r, q)
+    is_request(x.body) && is_of(r, x)
 }
 
-fn is_request_of(r: Record, x: Message) -> bool
-    ensures { result ≡ is_request_of r x }
+fn is_answer_to(r: &Record, x: &Message) -> bool
+    ensures { result ≡ is_answer_to r.now x.now }
 {
-    let body = x.body;
-    let asking = tables::elements::is_request(body);
-    let same = is_of(r, x);
-    asking & same
+    !is_request(x.body) && is_of(r, x)
 }
 
-fn is_answer_to(r: Record, x: Message) -> bool
-    ensures { result ≡ is_answer_to r x }
+fn requests_of(q: &[Message], r: &Record) -> usize
+    ensures { result ≡ length (filter (is_request_of r.now) q.now) }
 {
-    let body = x.body;
-    let asking = tables::elements::is_request(body);
-    let same = is_of(r, x);
-    !asking & same
+    q.iter().filter(|x| is_request_of(r, x)).count()
 }
 
-fn count_requests(q: Queue, r: Record) -> usize
-    requires { q.count ≤ max_messages }
-    ensures { (result ≡ length (keep (is_request_of r) (messages_of q))) × (result ≤ max_messages) }
+fn answers_to(q: &[Message], r: &Record) -> usize
+    ensures { result ≡ length (filter (is_answer_to r.now) q.now) }
 {
-    let count = q.count;
-    let mut i: usize = 0;
-    let mut sum: usize = 0;
-    while i < count {
-        let item = q.items[i];
-        let b = is_request_of(r, item);
-        let one = tables::elements::hit(b);
-        sum += one;
-        i += 1;
-    }
-    sum
-}
-
-fn count_answers(q: Queue, r: Record) -> usize
-    requires { q.count ≤ max_messages }
-    ensures { (result ≡ length (keep (is_answer_to r) (messages_of q))) × (result ≤ max_messages) }
-{
-    let count = q.count;
-    let mut i: usize = 0;
-    let mut sum: usize = 0;
-    while i < count {
-        let item = q.items[i];
-        let b = is_answer_to(r, item);
-        let one = tables::elements::hit(b);
-        sum += one;
-        i += 1;
-    }
-    sum
-}
-
-// An empty queue is not handed on.
-fn requests_of(q: Queue, r: Record) -> usize
-    requires { q.count ≤ max_messages }
-    ensures { (result ≡ length (keep (is_request_of r) (messages_of q))) × (result ≤ max_messages) }
-{
-    if q.count == 0 {
-        return 0;
-    }
-    count_requests(q, r)
-}
-
-fn answers_to(q: Queue, r: Record) -> usize
-    requires { q.count ≤ max_messages }
-    ensures { (result ≡ length (keep (is_answer_to r) (messages_of q))) × (result ≤ max_messages) }
-{
-    if q.count == 0 {
-        return 0;
-    }
-    count_answers(q, r)
+    q.iter().filter(|x| is_answer_to(r, x)).count()
 }
 
 // Whether a record, if it is sent towards r, has one message: in the queue q there or in the queue back.
-fn record_answered(x: Record, r: u8, q: Queue, back: Queue) -> bool
-    requires { (q.count ≤ max_messages) × (back.count ≤ max_messages) }
-    ensures { result ≡ record_answered r (messages_of q) (messages_of back) x }
+fn record_answered(x: &Record, r: u8, q: &[Message], back: &[Message]) -> bool
+    requires few { (length q.now ≤ max_messages) × (length back.now ≤ max_messages) }
+    ensures { result ≡ record_answered r q.now back.now x.now }
 {
-    let stage = x.stage;
-    if tables::elements::is_sent(stage) {} else {
-        return true;
-    }
-    if x.partition != r {
+    if !is_sent(x.stage) || x.partition != r {
         return true;
     }
     let requests = requests_of(q, x);
@@ -190,52 +96,29 @@ fn record_answered(x: Record, r: u8, q: Queue, back: Queue) -> bool
     requests + answers == 1
 }
 
-fn records_answered(xs: Records, r: u8, q: Queue, back: Queue) -> bool
-    requires { (xs.count ≤ max_records) × (q.count ≤ max_messages) × (back.count ≤ max_messages) }
-    ensures { result ≡ all (record_answered r (messages_of q) (messages_of back)) (records_of xs) }
+fn records_answered(xs: &[Record], r: u8, q: &[Message], back: &[Message]) -> bool
+    requires few { (length q.now ≤ max_messages) × (length back.now ≤ max_messages) }
+    ensures { result ≡ all (record_answered r q.now back.now) xs.now }
 {
-    let count = xs.count;
-    let mut i: usize = 0;
-    while i < count {
-        let item = xs.items[i];
-        if record_answered(item, r, q, back) {
-            i += 1;
-        } else {
-            return false;
-        }
-    }
-    true
+    xs.iter().all(|x| record_answered(x, r, q, back))
 }
 
-// The queue q from s to r and the queue back, the records xs of s and ys of r; whether both partitions are up. Where s has no record,
-// none waits for an answer, and no list is handed on for it.
+// The queue q from s to r and the queue back, the records xs of s and ys of r; whether both partitions are up. Where one is down, the
+// queue is empty.
 pub fn pair_in_order(
     up: bool,
-    xs: Records,
-    ys: Records,
+    xs: &Records,
+    ys: &Records,
     s: u8,
     r: u8,
-    q: Queue,
-    back: Queue,
+    q: &Queue,
+    back: &Queue,
 ) -> bool
-    requires { (xs.count ≤ max_records) × (ys.count ≤ max_records) }
-    ensures { result ≡ pair_fine up (records_of xs) (records_of ys) s r q back }
+    ensures { result ≡ pair_fine up (records_of xs.now) (records_of ys.now) s r q.now back.now }
 {
-    if shapes::queue_shaped(q) {} else {
-        return false;
-    }
-    if MAX_MESSAGES < back.count {
-        return false;
-    }
-    let loud = (q.count != 0) & !up;
-    if loud {
-        return false;
-    }
-    if queue_in_order(xs, ys, s, r, q) {} else {
-        return false;
-    }
-    if xs.count == 0 {
-        return true;
-    }
-    records_answered(xs, r, q, back)
+    shapes::is_shaped(q)
+        && back.count <= MAX_MESSAGES
+        && (up || q.listed().is_empty())
+        && messages_in_order(xs.listed(), ys.listed(), s, r, q.listed())
+        && records_answered(xs.listed(), r, q.listed(), back.listed())
 }

@@ -6,6 +6,7 @@ ghost use Rattle.protocol.specs.Elements.{is_accepted, is_one, is_other, reason_
 
 use protocol::{Reason, Refusal, Reply};
 
+// Not a `From`: the number is the document's, asked for by its name, and the match would be the same.
 pub fn refusal_number(r: Refusal) -> u32
     ensures { result ≡ refusal_number r }
 {
@@ -40,8 +41,7 @@ pub fn refusal_number(r: Refusal) -> u32
 pub fn accepted(r: Refusal) -> bool
     ensures { result ≡ is_accepted r }
 {
-    let n = refusal_number(r);
-    n == 0
+    r == Refusal::Accepted
 }
 
 fn reason_number(why: Reason) -> u32
@@ -69,22 +69,12 @@ pub fn reply_number(r: Reply) -> u32
 pub fn is_one(r: Reply) -> bool
     ensures { result ≡ is_one r }
 {
-    match r {
-        Reply::None => false,
-        Reply::Done => true,
-        Reply::NameTaken => false,
-        Reply::Because(_) => false,
-    }
+    r == Reply::Done
 }
 
 // Replies 2 to 6.
 pub fn is_other(r: Reply) -> bool
     ensures { result ≡ is_other r }
 {
-    match r {
-        Reply::None => false,
-        Reply::Done => false,
-        Reply::NameTaken => true,
-        Reply::Because(_) => true,
-    }
+    matches!(r, Reply::NameTaken | Reply::Because(_))
 }

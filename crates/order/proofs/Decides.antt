@@ -1,5 +1,5 @@
 -- What `in_order` tests, one after the other, is whether the tables are shaped and in order.
-use mathlib.Core.Bool.{Bool, ◌&&◌, false, true}
+use mathlib.Core.Bool.{Bool, ◌&&◌, true}
 use mathlib.Core.List.{List, [], ◌∷◌}
 use mathlib.Core.Path.{◌∙◌, ◌≡◌, ap, refl, sym}
 use Prim.Native.Nat.{◌%◌, ◌*◌, ◌+◌, ◌/◌, ◌<◌, ◌≤◌, suc, zero, ℕ}
@@ -18,14 +18,12 @@ use Rattle.partitions.specs.Clauses.{partition_fine}
 use Rattle.messages.specs.Clauses.{pair_fine}
 use Rattle.order.specs.Clauses.{lasts_of, pair_at, partitions_fine, place_at, place_fine}
 use Rattle.lists.proofs.Alls.{past_all}
-use Rattle.lists.proofs.Chains.{every-last, every-no, every-yes}
-use Rattle.lists.proofs.Downs.{Down}
 use Rattle.lists.proofs.Images.{get_or-past}
 use Rattle.lists.proofs.Tests.{◌also◌, and_left, and_right, below_at, below_true, bool_same, both_true, by_test, done, every-at, every_of}
 use Rattle.lists.proofs.Tidies.{tidy-count}
 use Rattle.tables.proofs.Packs.{Shaped, shaped-all}
 use Rattle.tables.proofs.Views.{count-view, partition-there, partition-view, past-view, queue-view, queues-view}
-use Rattle.order.proofs.Laws.{pair-at, at_place, place-shaped, places-few, places-many, places-start}
+use Rattle.order.proofs.Laws.{place-shaped}
 use Rattle.order.proofs.Whole.{PairOrder, PartitionOrder, fine_of, order-of, order-whole, pair-order, pair-test, whole-pieces}
 use Rattle.protocol.specs.Tables.{Partition as Part, partition, queue, partition_count, no_partition as no_part}
 
@@ -139,24 +137,8 @@ shape-passes t z h =
     let d : all shaped_queue (drop 0 t.queues) ≡ true = past_all shaped_queue 0 t.queues no_queue (λ k l g. every-at _ (below_at queue_count (pair_at t) (every-at _ h 1) k (omega (arith, z.queues))) 0) in
     every_of _ (both_true (every-at _ (every-at _ h 0) 1) b also c also d also done)
 
-decided : (t : Tables) → Sized t → every (steps t) ≡ (shaped t && in_order (view t))
+pub decided : (t : Tables) → Sized t → every (steps t) ≡ (shaped t && in_order (view t))
 decided t z =
     bool_same (every (steps t)) (shaped t && in_order (view t))
     (λ y. let e = shape-passes t z y in both_true e (order-passes t z e y))
     (λ y. steps-pass t z (and_left _ _ y) (and_right (shaped t) _ y))
-
--- `in_order`: the loop over the places, and then the loop over the pairs
-module _ (t : Tables) (z : Sized t) where
-  pub order-not : false ≡ partitions_fine t.count t.partitions → false ≡ (shaped t && in_order (view t))
-  order-not e = every-no _ false _ e refl ∙ decided t z
-
-  pub order-few : t.count < 1 → false ≡ (shaped t && in_order (view t))
-  order-few h = order-not (places-few t.count t.partitions h)
-
-  pub order-many : 1 ≤ t.count → max_partitions < t.count → false ≡ (shaped t && in_order (view t))
-  order-many g h = order-not (places-many t.count t.partitions g h)
-
-  pub order-start : true ≡ partitions_fine t.count t.partitions → Down (shaped t && in_order (view t)) (pair_at t) queue_count
-  order-start e = record { left = sym (every-yes _ true _ e _ refl (every-last (below queue_count (pair_at t)) _ refl) ∙ decided t z) }
-
-pub ruleset orders = (order-few, order-many, order-not, order-start, places-start, at_place, pair-at)

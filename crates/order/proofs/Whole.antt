@@ -18,9 +18,8 @@ use Rattle.protocol.specs.declared.Body.TheVariants.{No, NoBecause, Request, Yes
 use Rattle.protocol.specs.declared.Entry.{Entry}
 use Rattle.protocol.specs.declared.Message.{Message}
 use Rattle.protocol.specs.declared.Record.{Record}
-use Rattle.tables.specs.View.{SizedPartition, messages_of, shaped_partition, shaped_queue, view_partition}
+use Rattle.tables.specs.View.{SizedPartition, messages_of, shaped_partition, shaped_queue, view_partition, Queue}
 use Rattle.tables.specs.declared.Partition.{Partition}
-use Rattle.tables.specs.declared.Queue.{Queue}
 use Rattle.partitions.specs.Clauses.{backpointer_among, backpointer_given, backpointers_fine, entries_fine, entry_among, given, partition_fine, placed_among, record_among, records_fine, room_in}
 use Rattle.messages.specs.Clauses.{message_fine, pair_fine, record_answered}
 use Rattle.lists.proofs.Alls.{all_both, all_first, all-second}

@@ -1,66 +1,68 @@
 // Whether the tables are in order, O1 to O7 of document 01, whatever they hold.
 #![tactic(auto)]
 
-ghost use Rattle.std.specs.Prelude.{◌&&◌, ◌≡◌};
+ghost use Rattle.std.specs.Prelude.{◌&&◌, ◌≡◌, ◌<◌};
+ghost use Rattle.lists.specs.Lists.{below};
+ghost use Rattle.protocol.specs.Bounds.{max_partitions, queue_count};
 ghost use Rattle.protocol.specs.Order.{in_order};
 ghost use Rattle.tables.specs.View.{view, shaped};
-ghost use Rattle.order.specs.Clauses.{place_fine};
+ghost use Rattle.order.specs.Clauses.{lasts_of, pair_at, place_at, place_fine};
 
 use tables::{MAX_PARTITIONS, Partition, QUEUES, Tables};
 
+fn lasts_of(t: &Tables) -> [u32; MAX_PARTITIONS]
+    ensures { result ≡ lasts_of t.now.partitions }
+{
+    let [a, b, c, d] = &t.partitions;
+    [a.last, b.last, c.last, d.last]
+}
+
 // Whether a partition may stand at place a, where n are there.
-fn place_in_order(p: Partition, a: usize, n: usize, lasts: [u32; MAX_PARTITIONS]) -> bool
-    ensures { result ≡ place_fine n lasts a p }
+fn place_in_order(p: &Partition, a: usize, n: usize, lasts: &[u32; MAX_PARTITIONS]) -> bool
+    ensures { result ≡ place_fine n lasts.now a p.now }
 {
     if a < n {
         return partitions::partition_in_order(p, n, lasts);
     }
-    let zero = shapes::partition_shaped(p);
-    let unused = shapes::is_absent(p);
-    zero & unused
+    shapes::partition_shaped(p) && shapes::is_absent(p)
 }
 
-// Both loops stand here, over the partitions and over every ordered pair of them, of those that are not there too: so the tables,
-// of some twenty kilobytes, are handed on to nobody.
+fn places_in_order(t: &Tables) -> bool
+    ensures { result ≡ below max_partitions (place_at t.now.count t.now.partitions) }
+{
+    let lasts = lasts_of(t);
+    (0..MAX_PARTITIONS).all(|a| place_in_order(&t.partitions[a], a, t.count, &lasts))
+}
+
+// Of the two partitions whose queue stands at place k.
+fn pair_in_order(t: &Tables, k: usize) -> bool
+    requires { k < queue_count }
+    ensures { result ≡ pair_at t.now k }
+{
+    let s = k / MAX_PARTITIONS;
+    let r = k % MAX_PARTITIONS;
+    let from = &t.partitions[s];
+    let to = &t.partitions[r];
+    messages::pair_in_order(
+        from.up && to.up,
+        &from.records,
+        &to.records,
+        s as u8,
+        r as u8,
+        &t.queues[k],
+        &t.queues[r * MAX_PARTITIONS + s],
+    )
+}
+
+fn pairs_in_order(t: &Tables) -> bool
+    ensures { result ≡ below queue_count (pair_at t.now) }
+{
+    (0..QUEUES).all(|k| pair_in_order(t, k))
+}
+
+// The tables go by value here: how long their arrays are and how large their numbers, a proof knows of a value, not of what is lent.
 pub fn in_order(t: Tables) -> bool
     ensures { result ≡ (shaped t && in_order (view t)) }
 {
-    let n = t.count;
-    if n < 1 {
-        return false;
-    }
-    if MAX_PARTITIONS < n {
-        return false;
-    }
-    let p0 = t.partitions[0];
-    let p1 = t.partitions[1];
-    let p2 = t.partitions[2];
-    let p3 = t.partitions[3];
-    let lasts = [p0.last, p1.last, p2.last, p3.last];
-    let mut a: usize = MAX_PARTITIONS;
-    while 0 < a {
-        a -= 1;
-        let p = t.partitions[a];
-        if place_in_order(p, a, n, lasts) {} else {
-            return false;
-        }
-    }
-    let mut k: usize = QUEUES;
-    while 0 < k {
-        k -= 1;
-        let s = k / MAX_PARTITIONS;
-        let r = k % MAX_PARTITIONS;
-        let x = t.partitions[s];
-        let y = t.partitions[r];
-        let up = x.up;
-        let other = y.up;
-        let xs = x.records;
-        let ys = y.records;
-        let q = t.queues[k];
-        let back = t.queues[r * MAX_PARTITIONS + s];
-        if messages::pair_in_order(up & other, xs, ys, s as u8, r as u8, q, back) {} else {
-            return false;
-        }
-    }
-    true
+    1 <= t.count && t.count <= MAX_PARTITIONS && places_in_order(&t) && pairs_in_order(&t)
 }

@@ -9,11 +9,8 @@ use Rattle.protocol.specs.Order.{backpointers_clash, entries_clash, records_clas
 use Rattle.protocol.specs.declared.Backpointer.{Backpointer}
 use Rattle.protocol.specs.declared.Entry.{Entry}
 use Rattle.protocol.specs.declared.Record.{Record}
-use Rattle.tables.specs.View.{backpointers_of, entries_of, records_of, shaped_backpointers, shaped_entries, shaped_records}
-use Rattle.tables.specs.declared.Backpointers.{Backpointers}
-use Rattle.tables.specs.declared.Entries.{Entries}
+use Rattle.tables.specs.View.{backpointers_of, entries_of, records_of, shaped_backpointers, shaped_entries, shaped_records, Entries, Backpointers, Records}
 use Rattle.tables.specs.declared.Partition.{Partition}
-use Rattle.tables.specs.declared.Records.{Records}
 use Rattle.protocol.specs.Tables.{is_directory, is_object, unentered}
 
 unfoldable pub placed_among : ℕ → ℕ → ℕ → ℕ → Bool

@@ -1,348 +1,195 @@
-// O1 to O5 and the records' half of O7: what is asked of one partition, among so many. Each list is handed on as seldom as can be,
-// and a list of none only to be seen that its slots are free: it is a kilobyte, and goes by value.
+// O1 to O5 and the records' half of O7: what is asked of one partition, among so many.
 #![tactic(auto)]
 
-ghost use Rattle.std.specs.Prelude.{◌≤◌, ◌≡◌};
-ghost use Rattle.lists.specs.Lists.{all, apart};
-ghost use Rattle.protocol.specs.Bounds.{max_partitions, max_entries, max_backpointers, max_records};
+ghost use Rattle.std.specs.Prelude.{Bool, List, ℕ, [], ◌∷◌, ◌&&◌, ◌≡◌};
+ghost use Rattle.lists.specs.Lists.{all, any, apart, every, tidy};
 ghost use Rattle.protocol.specs.Order.{entries_clash, backpointers_clash, records_clash};
-ghost use Rattle.tables.specs.View.{entries_of, backpointers_of, records_of};
-ghost use Rattle.partitions.specs.Clauses.{placed_among, entry_among, backpointer_among, record_among, given, backpointer_given, entry_fine, backpointer_fine, record_fine, entries_fine, backpointers_fine, records_fine, room_in, ready_record, partition_fine};
+ghost use Rattle.tables.specs.View.{entries_of, list_of, records_of};
+ghost use Rattle.partitions.specs.Clauses.{placed_among, entry_among, backpointer_among, record_among, given, backpointer_given, room_in, ready_record, partition_fine};
+ghost use Rattle.partitions.specs.declared.Givers.{Givers};
 
+use lists::Bounded;
 use protocol::{Backpointer, Entry, Record};
+use tables::elements::{Slot, is_ready, stage_fits};
 use tables::{
-    Backpointers, DIRECTORIES, Entries, MAX_ENTRIES, MAX_PARTITIONS, OBJECTS, Partition, Records,
+    DIRECTORIES, Entries, MAX_ENTRIES, MAX_PARTITIONS, OBJECTS, Partition, Records, reads,
 };
+
+// Who gave the numbers: how many partitions there are, the last number of the partition that is tested, and of each.
+#[derive(Clone, Copy)]
+pub struct Givers {
+    pub count: usize,
+    pub last: u32,
+    pub lasts: [u32; MAX_PARTITIONS],
+}
+
+// What is asked of an element of a partition's list: its parts are in range, its number was given by its giver, and no two clash.
+pub trait Element: Slot {
+    ghost among: { ℕ → Self → Bool };
+
+    ghost numbered: { Givers → Self → Bool };
+
+    ghost clash: { Self → Self → Bool };
+
+    fn is_among(&self, count: usize) -> bool
+        ensures { result ≡ among count self.now };
+
+    fn is_numbered(&self, by: &Givers) -> bool
+        ensures { result ≡ numbered by.now self.now };
+
+    fn clashes(&self, other: &Self) -> bool
+        ensures { result ≡ clash self.now other.now };
+}
 
 fn is_placed(directory: u8, partition: u8, object: u8, n: usize) -> bool
     ensures { result ≡ placed_among n directory partition object }
 {
-    let place = partition as usize;
-    (directory < DIRECTORIES) & ((place < n) & (object < OBJECTS))
-}
-
-pub fn entry_in_range(e: Entry, n: usize) -> bool
-    ensures { result ≡ entry_among n e }
-{
-    let placed = is_placed(e.directory, e.partition, e.object, n);
-    let name = e.name;
-    let named = names::good(name);
-    placed & named
-}
-
-pub fn backpointer_in_range(b: Backpointer, n: usize) -> bool
-    ensures { result ≡ backpointer_among n b }
-{
-    let placed = is_placed(b.directory, b.parent, b.object, n);
-    let name = b.name;
-    let named = names::good(name);
-    placed & named
-}
-
-pub fn record_in_range(r: Record, n: usize) -> bool
-    ensures { result ≡ record_among n r }
-{
-    let placed = is_placed(r.directory, r.partition, r.object, n);
-    let name = r.name;
-    let named = names::good(name);
-    let kind = r.kind;
-    let stage = r.stage;
-    let fits = tables::elements::stage_fits(kind, stage);
-    placed & (named & fits)
+    directory < DIRECTORIES && (partition as usize) < n && object < OBJECTS
 }
 
 // Whether a number was given, where this is the giver's last.
 pub fn is_given(last: u32, number: u32) -> bool
     ensures { result ≡ given last number }
 {
-    (1 <= number) & (number <= last)
+    1 <= number && number <= last
 }
 
-// An entry's number was given by its own partition, and so was a record's.
-fn entry_in_order(e: Entry, n: usize, last: u32) -> bool
-    ensures { result ≡ entry_fine n last e }
-{
-    let fits = entry_in_range(e, n);
-    let numbered = is_given(last, e.number);
-    fits & numbered
-}
+// The number is that of its own partition.
+impl Element for Entry {
+    ghost among = { entry_among };
 
-fn record_in_order(r: Record, n: usize, last: u32) -> bool
-    ensures { result ≡ record_fine n last r }
-{
-    let fits = record_in_range(r, n);
-    let numbered = is_given(last, r.number);
-    fits & numbered
-}
+    ghost numbered = { λ by e. given by.last e.number };
 
-// The giver of a back-pointer's number is its parent.
-fn backpointer_given(b: Backpointer, lasts: [u32; MAX_PARTITIONS]) -> bool
-    ensures { result ≡ backpointer_given lasts b }
-{
-    let parent = b.parent as usize;
-    if MAX_PARTITIONS <= parent {
-        return false;
+    ghost clash = { entries_clash };
+
+    fn is_among(&self, count: usize) -> bool {
+        is_placed(self.directory, self.partition, self.object, count) && names::good(self.name)
     }
-    let last = lasts[parent];
-    is_given(last, b.number)
-}
 
-fn backpointer_in_order(b: Backpointer, n: usize, lasts: [u32; MAX_PARTITIONS]) -> bool
-    ensures { result ≡ backpointer_fine n lasts b }
-{
-    let fits = backpointer_in_range(b, n);
-    let numbered = backpointer_given(b, lasts);
-    fits & numbered
-}
-
-// The numbers are compared first: they differ soonest.
-fn entries_clash(a: Entry, b: Entry) -> bool
-    ensures { result ≡ entries_clash a b }
-{
-    if b.number == a.number {
-        return true;
+    fn is_numbered(&self, by: &Givers) -> bool {
+        is_given(by.last, self.number)
     }
-    if b.directory != a.directory {
-        return false;
+
+    fn clashes(&self, other: &Entry) -> bool {
+        other.number == self.number
+            || (other.directory == self.directory && names::same(other.name, self.name))
     }
-    let m = b.name;
-    let n = a.name;
-    names::same(m, n)
 }
 
-fn backpointers_clash(a: Backpointer, b: Backpointer) -> bool
-    ensures { result ≡ backpointers_clash a b }
-{
-    let name = a.name;
-    tables::reads::in_place(b, a.object, a.parent, a.directory, name)
+// The giver of the number is its parent.
+impl Element for Backpointer {
+    ghost among = { backpointer_among };
+
+    ghost numbered = { λ by b. backpointer_given by.lasts b };
+
+    ghost clash = { backpointers_clash };
+
+    fn is_among(&self, count: usize) -> bool {
+        is_placed(self.directory, self.parent, self.object, count) && names::good(self.name)
+    }
+
+    fn is_numbered(&self, by: &Givers) -> bool {
+        match by.lasts.get(self.parent as usize) {
+            Some(last) => is_given(*last, self.number),
+            None => false,
+        }
+    }
+
+    fn clashes(&self, other: &Backpointer) -> bool {
+        reads::in_place(other, self.object, self.parent, self.directory, self.name)
+    }
 }
 
-fn records_clash(a: Record, b: Record) -> bool
-    ensures { result ≡ records_clash a b }
-{
-    b.number == a.number
+// The number is that of its own partition.
+impl Element for Record {
+    ghost among = { record_among };
+
+    ghost numbered = { λ by r. given by.last r.number };
+
+    ghost clash = { records_clash };
+
+    fn is_among(&self, count: usize) -> bool {
+        is_placed(self.directory, self.partition, self.object, count)
+            && names::good(self.name)
+            && stage_fits(self.kind, self.stage)
+    }
+
+    fn is_numbered(&self, by: &Givers) -> bool {
+        is_given(by.last, self.number)
+    }
+
+    fn clashes(&self, other: &Record) -> bool {
+        other.number == self.number
+    }
 }
 
-// ---- the entries of a partition
+// ---- one list
 
-fn each_entry_in_order(x: Entries, n: usize, last: u32) -> bool
-    requires { x.count ≤ max_entries }
-    ensures { result ≡ all (entry_fine n last) (entries_of x) }
+fn is_fine<T: Element>(x: &T, by: &Givers) -> bool
+    ensures { result ≡ (T.among by.now.count x.now && T.numbered by.now x.now) }
 {
-    let count = x.count;
-    let mut i: usize = 0;
-    while i < count {
-        let item = x.items[i];
-        if entry_in_order(item, n, last) {
-            i += 1;
-        } else {
+    x.is_among(by.count) && x.is_numbered(by)
+}
+
+fn all_fine<T: Element>(l: &[T], by: &Givers) -> bool
+    ensures { result ≡ all (λ x. T.among by.now.count x && T.numbered by.now x) l.now }
+{
+    l.iter().all(|x| is_fine(x, by))
+}
+
+fn any_clashes<T: Element>(x: &T, l: &[T]) -> bool
+    ensures { result ≡ any (T.clash x.now) l.now }
+{
+    l.iter().any(|other| x.clashes(other))
+}
+
+// Whether no two of them clash.
+pub fn are_apart<T: Element>(l: &[T]) -> bool
+    ensures { result ≡ apart T.clash l.now }
+{
+    let mut rest = l;
+    while let Some((first, others)) = rest.split_first() {
+        if any_clashes(first, others) {
             return false;
         }
+        rest = others;
     }
     true
 }
 
-pub fn entries_apart(x: Entries) -> bool
-    requires { x.count ≤ max_entries }
-    ensures { result ≡ apart entries_clash (entries_of x) }
+fn list_in_order<T: Element, const N: usize>(l: &Bounded<T, N>, by: &Givers) -> bool
+    ensures { result ≡ every (tidy N T.free l.now.count l.now.items ∷ all (λ x. T.among by.now.count x && T.numbered by.now x) (list_of l.now) ∷ apart T.clash (list_of l.now) ∷ []) }
 {
-    let count = x.count;
-    let mut i: usize = 0;
-    while i < count {
-        let a = x.items[i];
-        let mut j: usize = i + 1;
-        while j < count {
-            let b = x.items[j];
-            if entries_clash(a, b) {
-                return false;
-            }
-            j += 1;
-        }
-        i += 1;
-    }
-    true
-}
-
-fn entries_in_order(x: Entries, n: usize, last: u32) -> bool
-    ensures { result ≡ entries_fine n last x }
-{
-    if shapes::entries_shaped(x) {} else {
-        return false;
-    }
-    if x.count == 0 {
-        return true;
-    }
-    if each_entry_in_order(x, n, last) {} else {
-        return false;
-    }
-    entries_apart(x)
-}
-
-// ---- its back-pointers
-
-fn each_backpointer_in_order(x: Backpointers, n: usize, lasts: [u32; MAX_PARTITIONS]) -> bool
-    requires { x.count ≤ max_backpointers }
-    ensures { result ≡ all (backpointer_fine n lasts) (backpointers_of x) }
-{
-    let count = x.count;
-    let mut i: usize = 0;
-    while i < count {
-        let item = x.items[i];
-        if backpointer_in_order(item, n, lasts) {
-            i += 1;
-        } else {
-            return false;
-        }
-    }
-    true
-}
-
-pub fn backpointers_apart(x: Backpointers) -> bool
-    requires { x.count ≤ max_backpointers }
-    ensures { result ≡ apart backpointers_clash (backpointers_of x) }
-{
-    let count = x.count;
-    let mut i: usize = 0;
-    while i < count {
-        let a = x.items[i];
-        let mut j: usize = i + 1;
-        while j < count {
-            let b = x.items[j];
-            if backpointers_clash(a, b) {
-                return false;
-            }
-            j += 1;
-        }
-        i += 1;
-    }
-    true
-}
-
-fn backpointers_in_order(x: Backpointers, n: usize, lasts: [u32; MAX_PARTITIONS]) -> bool
-    ensures { result ≡ backpointers_fine n lasts x }
-{
-    if shapes::backpointers_shaped(x) {} else {
-        return false;
-    }
-    if x.count == 0 {
-        return true;
-    }
-    if each_backpointer_in_order(x, n, lasts) {} else {
-        return false;
-    }
-    backpointers_apart(x)
-}
-
-// ---- its records
-
-fn each_record_in_order(x: Records, n: usize, last: u32) -> bool
-    requires { x.count ≤ max_records }
-    ensures { result ≡ all (record_fine n last) (records_of x) }
-{
-    let count = x.count;
-    let mut i: usize = 0;
-    while i < count {
-        let item = x.items[i];
-        if record_in_order(item, n, last) {
-            i += 1;
-        } else {
-            return false;
-        }
-    }
-    true
-}
-
-pub fn records_apart(x: Records) -> bool
-    requires { x.count ≤ max_records }
-    ensures { result ≡ apart records_clash (records_of x) }
-{
-    let count = x.count;
-    let mut i: usize = 0;
-    while i < count {
-        let a = x.items[i];
-        let mut j: usize = i + 1;
-        while j < count {
-            let b = x.items[j];
-            if records_clash(a, b) {
-                return false;
-            }
-            j += 1;
-        }
-        i += 1;
-    }
-    true
-}
-
-fn records_in_order(x: Records, n: usize, last: u32) -> bool
-    ensures { result ≡ records_fine n last x }
-{
-    if shapes::records_shaped(x) {} else {
-        return false;
-    }
-    if x.count == 0 {
-        return true;
-    }
-    if each_record_in_order(x, n, last) {} else {
-        return false;
-    }
-    records_apart(x)
-}
-
-fn is_ready_record(r: Record) -> bool
-    ensures { result ≡ ready_record r }
-{
-    let stage = r.stage;
-    tables::elements::is_ready(stage)
-}
-
-fn all_ready(x: Records) -> bool
-    requires { x.count ≤ max_records }
-    ensures { result ≡ all ready_record (records_of x) }
-{
-    let count = x.count;
-    let mut i: usize = 0;
-    while i < count {
-        let item = x.items[i];
-        if is_ready_record(item) {
-            i += 1;
-        } else {
-            return false;
-        }
-    }
-    true
+    shapes::is_shaped(l) && all_fine(l.listed(), by) && are_apart(l.listed())
 }
 
 // ---- the partition
 
 // Where the records would fit even if no entry bore their numbers, they need not be looked at.
-pub fn has_room(entries: Entries, records: Records) -> bool
-    requires { (entries.count ≤ max_entries) × (records.count ≤ max_records) }
-    ensures { result ≡ room_in (entries_of entries) (records_of records) }
+pub fn has_room(entries: &Entries, records: &Records) -> bool
+    ensures { result ≡ room_in (entries_of entries.now) (records_of records.now) }
 {
-    if entries.count + records.count <= MAX_ENTRIES {
-        return true;
-    }
-    tables::reads::claimed(entries, records) <= MAX_ENTRIES
+    entries.listed().len() + records.listed().len() <= MAX_ENTRIES
+        || reads::claimed(entries, records) <= MAX_ENTRIES
 }
 
-pub fn partition_in_order(p: Partition, n: usize, lasts: [u32; MAX_PARTITIONS]) -> bool
-    ensures { result ≡ partition_fine n lasts p }
+fn all_ready(l: &[Record]) -> bool
+    ensures { result ≡ all ready_record l.now }
 {
-    let last = p.last;
-    if entries_in_order(p.entries, n, last) {} else {
-        return false;
-    }
-    if backpointers_in_order(p.backpointers, n, lasts) {} else {
-        return false;
-    }
-    if records_in_order(p.records, n, last) {} else {
-        return false;
-    }
-    if has_room(p.entries, p.records) {} else {
-        return false;
-    }
-    if p.up {
-        return true;
-    }
-    all_ready(p.records)
+    l.iter().all(|r| is_ready(r.stage))
+}
+
+pub fn partition_in_order(p: &Partition, n: usize, lasts: &[u32; MAX_PARTITIONS]) -> bool
+    ensures { result ≡ partition_fine n lasts.now p.now }
+{
+    let by = Givers {
+        count: n,
+        last: p.last,
+        lasts: *lasts,
+    };
+    list_in_order(&p.entries, &by)
+        && list_in_order(&p.backpointers, &by)
+        && list_in_order(&p.records, &by)
+        && has_room(&p.entries, &p.records)
+        && (p.up || all_ready(p.records.listed()))
 }

@@ -1,90 +1,89 @@
 -- What the functions that read answer, by the definitions of `Rows` and `Picture`.
-use Rattle.std.specs.Prelude.{◌≡◌, Bool, List, [], ℕ, ◌+◌, ◌*◌, ◌≤◌, length, take, drop}
-use Rattle.lists.specs.Lists.{pick, pad}
+use Rattle.std.specs.Prelude.{◌≡◌, Bool, List, [], ℕ, ◌+◌, ◌*◌, ◌≤◌, length, drop, Result, Ok, Err, IfOk}
+use Rattle.lists.specs.Lists.{pick}
 use Rattle.codec.specs.Over.{over}
 use Rattle.protocol.specs.declared.Refusal.{Refusal}
-use Rattle.protocol.specs.declared.Refusal.TheVariants.{Accepted}
-use Rattle.protocol.specs.Elements.{is_accepted}
+use Rattle.protocol.specs.declared.Refusal.TheVariants.{FieldOutOfRange}
 use Rattle.protocol.specs.Tables.{no_partition}
 use Rattle.tables.specs.declared.Partition.{Partition as Stored}
-use Rattle.tables.specs.View.{entries_of, backpointers_of, records_of, view_partition, pack_partition, Ranged}
+use Rattle.tables.specs.View.{list_of, pack_list, entries_of, backpointers_of, records_of, view_partition, pack_partition, Ranged}
 use Rattle.picture.specs.declared.Head.{Head}
 use Rattle.picture.specs.declared.Item.{Item}
-use Rattle.picture.specs.declared.PictureRead.{PictureRead}
-use Rattle.picture.specs.Rows.{Row, put_row, put_rows, Read, fail, more, many, read_table}
-use Rattle.picture.specs.Picture.{Picture, ItemFields, Items, first, sections, head_of, picture_from, head_size, read}
+use Rattle.picture.specs.declared.Gathered.{Gathered}
+use Rattle.picture.specs.declared.Picture.{Picture as Shown}
+use Rattle.picture.specs.declared.Sections.{Sections}
+use Rattle.picture.specs.Rows.{Row, put_row, put_rows, Read, fail, more}
+use Rattle.picture.specs.Picture.{Picture, ItemFields, Items, first, head_of, picture_from, read}
 
 abbrev pub item_of : Item → ItemFields
 item_of i = (i.a, (i.b, (i.c, (i.name, i.number))))
 
-unfoldable pub zero_head : Head
-zero_head = record { partition = 0; count = 0; last = 0 }
-
 module _ {A : Type 0} where
-  abbrev pub refusal_of : Read A → Refusal
-  refusal_of (fail why) = why
-  refusal_of (more x r) = Accepted
+  -- the reading that a result tells of, of a record of so many bytes
+  abbrev pub told : ℕ → List ℕ → Result A Refusal → Read A
+  told size bs (Ok x) = more x (drop size bs)
+  told size bs (Err why) = fail why
 
-  -- what was read, or z where nothing was
-  abbrev pub read_or : A → Read A → A
-  read_or z (fail why) = z
-  read_or z (more x r) = x
+  -- one record more of a kind, of which there may be no more where it is full
+  abbrev pub within : Bool → Read A → Read A
+  within full (fail why) = fail why
+  within full (more x r) = pick full (fail FieldOutOfRange) (more x r)
 
-  -- a refusal and a value as the reading that they tell of, of a record of so many bytes
-  unfoldable pub told : ℕ → List ℕ → Refusal → A → Read A
-  told size bs why x = pick (is_accepted why) (more x (drop size bs)) (fail why)
+module _ {A : Type 0} {cap : ℕ} where
+  -- the records of one kind, from a place on, as the reading that they tell of
+  abbrev pub gathered : List ℕ → Result (Gathered A cap) Refusal → Read (List A)
+  gathered bs (Ok g) = more (list_of g.list) (drop g.end bs)
+  gathered bs (Err why) = fail why
 
-  -- the refusal and the value are the reading's, and tell of it
-  pub record Answered (z : A) (size : ℕ) (bs : List ℕ) (R : Read A) (why : Refusal) (x : A) : Type 0 where
-    pub refusal : why ≡ refusal_of R
-    pub value : x ≡ read_or z R
-    pub reading : told size bs why x ≡ R
-
-module _ {A : Type 0} where
-  -- the records of one kind, from a place on, in an array: they tell of the reading, the other places hold z, and `at` is behind them
-  pub record Gathered (w : Row A) (t : A → Bool) (cap : ℕ) (z : A) (bs : List ℕ) (from : ℕ) (why : Refusal) (at count : ℕ) (items : List A) : Type 0 where
-    pub reading : told at bs why (take count items) ≡ many w (λ earlier. t) cap [] (drop from bs)
-    pub filled : items ≡ pad cap z (take count items)
-    pub place : at ≤ length bs
-    pub bound : count ≤ cap
+  -- they are in their stored form, with z in the free slots, and their end is in the bytes
+  pub record Kept (z : A) (bs : List ℕ) (g : Gathered A cap) : Type 0 where
+    pub packed : pack_list cap z (list_of g.list) ≡ g.list
+    pub place : g.end ≤ length bs
+    pub bound : g.list.count ≤ cap
 
 -- ---- the tables of a picture, as the code stores them
 
 abbrev pub items_in : Stored → Items first
 items_in x = (entries_of x.entries, (backpointers_of x.backpointers, (records_of x.records, tt)))
 
--- the sections behind a header: they tell of the reading, and are stored as the tables that they show; a refusal leaves none
-pub record Tabled (bs : List ℕ) (h : Head) (why : Refusal) (at : ℕ) (x : Stored) : Type 0 where
-  pub reading : told at bs why (items_in x) ≡ read_table (sections first) h (drop head_size bs)
-  pub stored : x ≡ pack_partition (pick (is_accepted why) (picture_from first h (items_in x)).tables no_partition)
-  pub place : at ≤ length bs
-  pub counted : Ranged x
+-- the sections behind a header, as the reading that they tell of
+abbrev pub tabled : List ℕ → Result Sections Refusal → Read (Items first)
+tabled bs (Ok t) = more (items_in t.tables) (drop t.end bs)
+tabled bs (Err why) = fail why
+
+-- they are stored as the tables that they show, and their end is in the bytes
+pub record Tabled (h : Head) (bs : List ℕ) (t : Sections) : Type 0 where
+  pub stored : t.tables ≡ pack_partition (picture_from first h (items_in t.tables)).tables
+  pub place : t.end ≤ length bs
+  pub counted : Ranged t.tables
 
 -- the close of a picture of n records
-unfoldable pub told_close : ℕ → Refusal → Read ℕ
-told_close n why = pick (is_accepted why) (more n []) (fail why)
+abbrev pub told_close : ℕ → Result Unit Refusal → Read ℕ
+told_close n (Ok u) = more n []
+told_close n (Err why) = fail why
 
 -- ---- a whole picture
 
 unfoldable pub no_picture : Picture
 no_picture = record { partition = 0; count = 0; tables = no_partition }
 
--- what is read, stored; where it is refused, the picture of nothing
-abbrev pub picture_read : Read Picture → PictureRead
-picture_read R =
-    record { refusal = refusal_of R; head = head_of (read_or no_picture R); tables = pack_partition (read_or no_picture R).tables }
+-- what is read, stored
+abbrev pub picture_read : Read Picture → Result Shown Refusal
+picture_read (fail why) = Err why
+picture_read (more x r) = Ok (record { head = head_of x; tables = pack_partition x.tables })
 
 -- and back
-unfoldable pub told_picture : PictureRead → Read Picture
-told_picture r =
-    pick (is_accepted r.refusal)
-    (more (record { partition = r.head.partition; count = r.head.count; tables = view_partition r.tables }) [])
-    (fail r.refusal)
+abbrev pub picture_of_shown : Shown → Picture
+picture_of_shown p = record { partition = p.head.partition; count = p.head.count; tables = view_partition p.tables }
 
-pub record Pictured (bs : List ℕ) (r : PictureRead) : Type 0 where
+abbrev pub told_picture : Result Shown Refusal → Read Picture
+told_picture (Ok p) = more (picture_of_shown p) []
+told_picture (Err why) = fail why
+
+pub record Pictured (bs : List ℕ) (r : Result Shown Refusal) : Type 0 where
   pub answer : r ≡ picture_read (read first bs)
   pub telling : told_picture r ≡ read first bs
-  pub counted : Ranged r.tables
+  pub counted : IfOk r (λ p. Ranged p.tables)
 
 -- ---- what is put into lent bytes
 
@@ -95,8 +94,8 @@ module _ {A : Type 0} (w : Row A) (size : ℕ) (l : List ℕ) (at : ℕ) where
     pub long : length (put_row w x) ≡ size
     pub bytes : b ≡ over l at (put_row w x)
 
-  -- the first n of some records, one behind another
-  pub record PutAll (xs : List A) (n next : ℕ) (b : List ℕ) : Type 0 where
-    pub place : next ≡ at + size * n
-    pub long : length (put_rows w (take n xs)) ≡ size * n
-    pub bytes : b ≡ over l at (put_rows w (take n xs))
+  -- some records, one behind another
+  pub record PutAll (xs : List A) (next : ℕ) (b : List ℕ) : Type 0 where
+    pub place : next ≡ at + size * length xs
+    pub long : length (put_rows w xs) ≡ size * length xs
+    pub bytes : b ≡ over l at (put_rows w xs)

@@ -1,5 +1,7 @@
 pub mod Rows
 pub mod Picture
+pub mod Items
+pub mod Kinds
 pub mod Answers
 pub mod Lone
 pub mod Store

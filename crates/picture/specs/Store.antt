@@ -1,10 +1,10 @@
 -- A partition's picture written into lent room, and loaded back (document 01, 'The picture').
-use Rattle.std.specs.Prelude.{Bool, not, ◌&&◌, List, ℕ, eqb, leb, length}
+use Rattle.std.specs.Prelude.{Bool, not, ◌&&◌, List, ℕ, eqb, leb, length, Result, Ok, Err}
 use Rattle.lists.specs.Lists.{pick}
 use Rattle.codec.specs.Over.{over}
 use Rattle.protocol.specs.declared.Reply.TheVariants.{None}
 use Rattle.protocol.specs.declared.Refusal.{Refusal}
-use Rattle.protocol.specs.declared.Refusal.TheVariants.{Accepted, OutOfRange, IsUp, OutOfOrder, FieldOutOfRange, RoomTooShort}
+use Rattle.protocol.specs.declared.Refusal.TheVariants.{OutOfRange, IsUp, OutOfOrder, FieldOutOfRange, RoomTooShort}
 use Rattle.protocol.specs.Tables.{Model, partition_count, is_partition, partition, set_partition}
 use Rattle.protocol.specs.Order.{in_order}
 use Rattle.protocol.specs.Answers.{Outcome, accept, refuse, check}
@@ -13,19 +13,23 @@ use Rattle.picture.specs.Picture.{Picture, first, picture_of, write, read}
 
 -- ---- "Writing touches exactly the bytes it reports; refusals of the writer: 16, 1, 22"
 
--- the refusal, how many bytes were written, and the room after it
+-- how many bytes were written, or the refusal, and the room after it
 pub record Written : Type 0 where
-  pub refusal : Refusal
-  pub size : ℕ
+  pub told : Result ℕ Refusal
   pub room : List ℕ
+
+-- of a refusal none
+abbrev pub size_of : Result ℕ Refusal → ℕ
+size_of (Ok n) = n
+size_of (Err why) = 0
 
 -- "A refusal leaves … lent bytes unchanged"
 abbrev pub unwritten : Refusal → List ℕ → Written
-unwritten why room = record { refusal = why; size = 0; room = room }
+unwritten why room = record { told = Err why; room = room }
 
 unfoldable pub written_into : List ℕ → List ℕ → Written
 written_into bs room =
-    pick (leb (length bs) (length room)) (record { refusal = Accepted; size = length bs; room = over room 0 bs }) (unwritten RoomTooShort room)
+    pick (leb (length bs) (length room)) (record { told = Ok (length bs); room = over room 0 bs }) (unwritten RoomTooShort room)
 
 unfoldable pub store : Model → ℕ → List ℕ → Written
 store m p room =

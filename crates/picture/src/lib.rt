@@ -4,26 +4,20 @@
 
 ghost use Rattle.picture.specs.Claims.{ReadsBack, NoOtherBytes, Largest, LoadsBack, LoadsAfterCrash};
 
+use lists::Bounded;
 use names::Name;
 use protocol::{Backpointer, Entry, Record, Refusal};
-use tables::{Backpointers, Entries, Partition, Records};
+use tables::Partition;
 
-// The letters of the marks.
-pub const B: u8 = 66;
+mod fields; // what each kind has in its item
+mod row; // the kinds of record between header and close
 
-pub const D: u8 = 68;
+pub use row::Row;
 
-pub const E: u8 = 69;
+// The marks of header and close.
+pub const HEAD_MARK: [u8; 2] = [b'H', b'D'];
 
-pub const G: u8 = 71;
-
-pub const H: u8 = 72;
-
-pub const L: u8 = 76;
-
-pub const N: u8 = 78;
-
-pub const P: u8 = 80;
+pub const CLOSE_MARK: [u8; 2] = [b'E', b'D'];
 
 // How many bytes each kind of record has, its mark among them.
 pub const HEAD_SIZE: usize = 8;
@@ -54,66 +48,23 @@ pub struct Item {
     pub number: u32,
 }
 
-// A header, or its refusal.
+// The records of one kind from a place on, and the place behind them.
 #[derive(Clone, Copy)]
-pub struct HeadRead {
-    pub refusal: Refusal,
-    pub head: Head,
+pub struct Gathered<T, const N: usize> {
+    pub list: Bounded<T, N>,
+    pub end: usize,
 }
 
-// A record, or its refusal and a zero one.
+// The records of every kind behind a header, and the place behind them.
 #[derive(Clone, Copy)]
-pub struct EntryRead {
-    pub refusal: Refusal,
-    pub entry: Entry,
-}
-
-#[derive(Clone, Copy)]
-pub struct BackpointerRead {
-    pub refusal: Refusal,
-    pub backpointer: Backpointer,
-}
-
-#[derive(Clone, Copy)]
-pub struct RecordRead {
-    pub refusal: Refusal,
-    pub record: Record,
-}
-
-// The records of one kind from a place on, and the place behind them; or their refusal, and none.
-#[derive(Clone, Copy)]
-pub struct EntriesRead {
-    pub refusal: Refusal,
-    pub at: usize,
-    pub entries: Entries,
-}
-
-#[derive(Clone, Copy)]
-pub struct BackpointersRead {
-    pub refusal: Refusal,
-    pub at: usize,
-    pub backpointers: Backpointers,
-}
-
-#[derive(Clone, Copy)]
-pub struct RecordsRead {
-    pub refusal: Refusal,
-    pub at: usize,
-    pub records: Records,
-}
-
-// The records of every kind behind a header, and the place behind them; or their refusal, and none.
-#[derive(Clone, Copy)]
-pub struct TablesRead {
-    pub refusal: Refusal,
-    pub at: usize,
+pub struct Sections {
     pub tables: Partition,
+    pub end: usize,
 }
 
-// What a picture shows: whose tables, of how many partitions, and they, down and with records ready. Or its refusal, and nothing.
+// What a picture shows: whose tables, of how many partitions, and they, down and with records ready.
 #[derive(Clone, Copy)]
-pub struct PictureRead {
-    pub refusal: Refusal,
+pub struct Picture {
     pub head: Head,
     pub tables: Partition,
 }
@@ -121,23 +72,18 @@ pub struct PictureRead {
 // What stands at a place of a picture.
 #[derive(Clone, Copy)]
 pub enum Part {
-    AtHead,
-    AtEntry,
-    AtBackpointer,
-    AtRecord,
-    AtClose,
-    AtRefusal,
+    Head(Head),
+    Entry(Entry),
+    Backpointer(Backpointer),
+    Record(Record),
+    Close,
+    Refused(Refusal),
 }
 
-// What a reader hands out at a place, and the place where it stands next. What is not handed out is zero.
+// What a reader hands out at a place, and the place where it stands next.
 #[derive(Clone, Copy)]
 pub struct Handed {
     pub part: Part,
-    pub refusal: Refusal,
-    pub head: Head,
-    pub entry: Entry,
-    pub backpointer: Backpointer,
-    pub log: Record,
     pub next: usize,
 }
 

@@ -6,15 +6,16 @@ ghost use Rattle.protocol.specs.Claims.{OrderKept, Safety, Settles, Settling, Re
 
 use names::Name;
 
-#[derive(Clone, Copy)]
+#[derive(Clone, Copy, PartialEq, Eq, Default)]
 pub enum Kind {
+    #[default]
     Link,
     Create,
     Unlink,
 }
 
 // Why a request to add is answered no: replies 3 to 6.
-#[derive(Clone, Copy)]
+#[derive(Clone, Copy, PartialEq, Eq)]
 pub enum Reason {
     PlaceTaken,
     ObjectIdle,
@@ -23,8 +24,9 @@ pub enum Reason {
 }
 
 // Where a record stands: ready, sent, held or refused for link and create; ready, sent or cleared for unlink.
-#[derive(Clone, Copy)]
+#[derive(Clone, Copy, PartialEq, Eq, Default)]
 pub enum Stage {
+    #[default]
     Ready,
     Sent,
     Held,
@@ -33,8 +35,9 @@ pub enum Stage {
 }
 
 // What a message says: a request, or the answer to one. A no to a request to add has its reason.
-#[derive(Clone, Copy)]
+#[derive(Clone, Copy, PartialEq, Eq, Default)]
 pub enum Body {
+    #[default]
     Request,
     Yes,
     No,
@@ -42,7 +45,7 @@ pub enum Body {
 }
 
 // The number of a partition, and the object's number there, say which object a name means.
-#[derive(Clone, Copy)]
+#[derive(Clone, Copy, PartialEq, Eq, Default)]
 pub struct Entry {
     pub directory: u8,
     pub name: Name,
@@ -51,7 +54,7 @@ pub struct Entry {
     pub number: u32,
 }
 
-#[derive(Clone, Copy)]
+#[derive(Clone, Copy, PartialEq, Eq, Default)]
 pub struct Backpointer {
     pub object: u8,
     pub parent: u8,
@@ -60,7 +63,7 @@ pub struct Backpointer {
     pub number: u32,
 }
 
-#[derive(Clone, Copy)]
+#[derive(Clone, Copy, PartialEq, Eq, Default)]
 pub struct Record {
     pub kind: Kind,
     pub directory: u8,
@@ -71,7 +74,7 @@ pub struct Record {
     pub stage: Stage,
 }
 
-#[derive(Clone, Copy)]
+#[derive(Clone, Copy, PartialEq, Eq, Default)]
 pub struct Message {
     pub body: Body,
     pub kind: Kind,
@@ -83,8 +86,9 @@ pub struct Message {
 }
 
 // What an advance tells the asker.
-#[derive(Clone, Copy)]
+#[derive(Clone, Copy, PartialEq, Eq, Default)]
 pub enum Reply {
+    #[default]
     None,
     Done,
     NameTaken,
@@ -92,7 +96,7 @@ pub enum Reply {
 }
 
 // The next step of an open record.
-#[derive(Clone, Copy)]
+#[derive(Clone, Copy, PartialEq, Eq)]
 pub enum Next {
     Closes(Reply),
     Sends,
@@ -103,7 +107,7 @@ pub enum Next {
 }
 
 // What the object's partition does with a request: it only says something, or says yes and adds or drops the back-pointer.
-#[derive(Clone, Copy)]
+#[derive(Clone, Copy, PartialEq, Eq)]
 pub enum Verdict {
     SaysOnly(Body),
     AddsIt,
@@ -111,7 +115,7 @@ pub enum Verdict {
 }
 
 // Why a call is refused: 0, accepted, to 23, in the order of document 01's table.
-#[derive(Clone, Copy)]
+#[derive(Clone, Copy, PartialEq, Eq)]
 pub enum Refusal {
     Accepted,
     OutOfRange,
@@ -139,8 +143,9 @@ pub enum Refusal {
     NotUnderstood,
 }
 
-// What a call answers: the refusal, the transaction number concerned, the reply.
-#[derive(Clone, Copy)]
+// What a call answers: the refusal, the transaction number concerned, the reply. No Result: a refusal gives all three, and they are
+// told as they are (`OneOutcome` and the definitions of Answers speak of the three).
+#[derive(Clone, Copy, PartialEq, Eq)]
 pub struct Answer {
     pub refusal: Refusal,
     pub number: u32,
@@ -148,7 +153,7 @@ pub struct Answer {
 }
 
 // What a settling run counts: its steps, its replies 1 and its other replies.
-#[derive(Clone, Copy)]
+#[derive(Clone, Copy, PartialEq, Eq, Default)]
 pub struct Tally {
     pub steps: u32,
     pub ones: u32,

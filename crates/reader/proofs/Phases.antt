@@ -12,7 +12,7 @@ use Rattle.protocol.specs.declared.Refusal.TheVariants.{CountWrong, FieldOutOfRa
 use Rattle.codec.specs.Codec.{Got, bad, got, none}
 use Rattle.picture.specs.Picture.{ed, Picture, closing, ended}
 use Rattle.picture.specs.Rows.{Read, Row, begins, body, fail, judged, many, marked, more, next, one}
-use Rattle.picture.specs.Standing.{handed_at, hands, hands_close, stays}
+use Rattle.picture.specs.Standing.{handed_at, hands, hands_close}
 use Rattle.picture.specs.declared.Handed.{Handed}
 use Rattle.reader.specs.Walk.{join, together, walk}
 use Rattle.lists.proofs.Keep.{snoc-length}
@@ -61,19 +61,19 @@ other-mark v w (a ∷ b ∷ r) d m =
 
 module _ {A : Type 0} (hand : A → Handed) (s : List ℕ) (at : ℕ) (full : Bool) (R : Read A) (e : handed_at s at ≡ hands hand at full R) (n : ℕ) (y : Picture) where
   pub step-full : full ≡ true → together y (walk (suc n) s at) ≡ next R (λ x r. fail FieldOutOfRange)
-  unfolding walk together hands stays join next
+  unfolding walk together hands join next
   step-full f = rw (e, f) (over R)
     where
-      over : (Q : Read A) → join (hands hand at true Q).part (hands hand at true Q) y (λ z. together z (walk n s (hands hand at true Q).next)) ≡ next Q (λ x r. fail FieldOutOfRange)
+      over : (Q : Read A) → join (hands hand at true Q).part y (λ z. together z (walk n s (hands hand at true Q).next)) ≡ next Q (λ x r. fail FieldOutOfRange)
       over (fail why) = refl
       over (more x r) = refl
 
-  pub step-turn : full ≡ false → (F : A → Picture) (place : A → ℕ) → ((x : A) (on : Picture → Read Picture) → join (hand x).part (hand x) y on ≡ on (F x)) → ((x : A) → (hand x).next ≡ place x)
+  pub step-turn : full ≡ false → (F : A → Picture) (place : A → ℕ) → ((x : A) (on : Picture → Read Picture) → join (hand x).part y on ≡ on (F x)) → ((x : A) → (hand x).next ≡ place x)
       → together y (walk (suc n) s at) ≡ next R (λ x r. together (F x) (walk n s (place x)))
-  unfolding walk together hands stays join next
+  unfolding walk together hands join next
   step-turn f F place j p = rw (e, f) (over R)
     where
-      over : (Q : Read A) → join (hands hand at false Q).part (hands hand at false Q) y (λ z. together z (walk n s (hands hand at false Q).next)) ≡ next Q (λ x r. together (F x) (walk n s (place x)))
+      over : (Q : Read A) → join (hands hand at false Q).part y (λ z. together z (walk n s (hands hand at false Q).next)) ≡ next Q (λ x r. together (F x) (walk n s (place x)))
       over (fail why) = refl
       over (more x r) = j x (λ z. together z (walk n s (hand x).next)) ∙ ap (λ (i : ℕ). together (F x) (walk n s i)) (p x)
 
@@ -91,10 +91,10 @@ closing-none n bs m r e =
     ended-none k q m r g
 
 pub step-close : (s : List ℕ) (at k : ℕ) (bs : List ℕ) (n : ℕ) (y : Picture) → handed_at s at ≡ hands_close at (closing k bs) → together y (walk (suc n) s at) ≡ next (closing k bs) (λ m q. more y q)
-unfolding walk together hands_close stays join next
+unfolding walk together hands_close join next
 step-close s at k bs n y e = rw e (over (closing k bs) (closing-none k bs))
   where
-    over : (Q : Read ℕ) → ((m : ℕ) (q : List ℕ) → Q ≡ more m q → q ≡ []) → join (hands_close at Q).part (hands_close at Q) y (λ z. together z (walk n s (hands_close at Q).next)) ≡ next Q (λ m q. more y q)
+    over : (Q : Read ℕ) → ((m : ℕ) (q : List ℕ) → Q ≡ more m q → q ≡ []) → join (hands_close at Q).part y (λ z. together z (walk n s (hands_close at Q).next)) ≡ next Q (λ m q. more y q)
     over (fail why) f = refl
     over (more m q) f = ap (more y) (sym (f m q refl))
 
@@ -108,7 +108,7 @@ module _ {A : Type 0} (w : Row A) (test : A → Bool) (cap rest : ℕ) (s : List
   pub record Phase : Type 0 where
     pub some : 1 ≤ rest
     pub handed : (xs : List A) (bs : List ℕ) → Good xs bs → marked w bs ≡ true → handed_at s (at xs) ≡ hands (hand (at xs)) (at xs) (leb cap (length xs)) (body w FieldOutOfRange test bs)
-    pub joins : (xs : List A) (x : A) (on : Picture → Read Picture) → join (hand (at xs) x).part (hand (at xs) x) (P xs) on ≡ on (P (xs ++ x ∷ []))
+    pub joins : (xs : List A) (x : A) (on : Picture → Read Picture) → join (hand (at xs) x).part (P xs) on ≡ on (P (xs ++ x ∷ []))
     pub leads : (xs : List A) (x : A) → (hand (at xs) x).next ≡ at (xs ++ x ∷ [])
     pub grows : (xs : List A) (bs : List ℕ) (x : A) (r : List ℕ) → Good xs bs → marked w bs ≡ true → length xs < cap → body w FieldOutOfRange test bs ≡ more x r → Good (xs ++ x ∷ []) r
     pub stops : (n : ℕ) (xs : List A) (bs : List ℕ) → Good xs bs → marked w bs ≡ false → rest ≤ n → W n xs ≡ K xs bs

@@ -17,7 +17,7 @@ use Rattle.codec.specs.Codec.{is_byte}
 use Rattle.picture.specs.Answers.{no_picture}
 use Rattle.picture.specs.Picture.{bp, en, hd, Items, lg, Picture, backpointer_fits, backpointer_section, closing, entry_fits, entry_section, first, head_fits, picture_from, read, read_tables, record_fits, record_section, sections}
 use Rattle.picture.specs.Rows.{Contents, Read, Row, Section, Table, ◌before◌, body, close, counted, fail, fits, many, marked, more, next, one, put_row, put_rows, put_table, read_table}
-use Rattle.picture.specs.Standing.{handed_at, handed_next, handed_under, hands, hands_backpointer, hands_close, hands_entry, hands_head, hands_record, stays}
+use Rattle.picture.specs.Standing.{handed_at, handed_next, handed_under, hands, hands_backpointer, hands_close, hands_entry, hands_record}
 use Rattle.picture.specs.declared.Handed.{Handed}
 use Rattle.picture.specs.declared.Head.{Head}
 use Rattle.reader.specs.Walk.{WalkReads, join, together, walk}
@@ -218,11 +218,11 @@ module _ (n : ℕ) (s : List ℕ) where
   begins-with R e = ap (handed_under s 0) e
 
   header_refused : (why : Refusal) → one (hd first) FieldOutOfRange head_fits s ≡ fail why → together no_picture (walk (suc n) s 0) ≡ fail why
-  unfolding walk together handed_under stays join
+  unfolding walk together handed_under join
   header_refused why e = rw (begins-with (fail why) e) refl
 
   header-passed : (h : Head) (r : List ℕ) → one (hd first) FieldOutOfRange head_fits s ≡ more h r → together no_picture (walk (suc n) s 0) ≡ together (picture_from first h (with_entries [])) (walk n s (place (with_entries [])))
-  unfolding walk together handed_under hands_head join
+  unfolding walk together handed_under join
   header-passed h r e = rw (begins-with (more h r) e) refl
 
 pub walk-reads : WalkReads

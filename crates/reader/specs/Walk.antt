@@ -7,7 +7,7 @@ use Rattle.protocol.specs.Bounds.{max_backpointers, max_entries, max_records}
 use Rattle.protocol.specs.Tables.{with_backpointers, with_entries, with_records}
 use Rattle.picture.specs.declared.Handed.{Handed}
 use Rattle.picture.specs.declared.Part.{Part}
-use Rattle.picture.specs.declared.Part.TheVariants.{AtHead, AtEntry, AtBackpointer, AtRecord, AtClose, AtRefusal}
+use Rattle.picture.specs.declared.Part.TheVariants.{Head as HeadPart, Entry as EntryPart, Backpointer as BackpointerPart, Record as RecordPart, Close, Refused}
 use Rattle.picture.specs.Rows.{Read, fail, more}
 use Rattle.picture.specs.Picture.{Picture, first, picture_from, read}
 use Rattle.picture.specs.Answers.{no_picture}
@@ -19,18 +19,18 @@ walk zero s at = []
 walk (suc n) s at = handed_at s at ∷ walk n s (handed_at s at).next
 
 -- a header begins a picture, a record is added to it, the close ends it, and a refusal refuses it
-unfoldable pub join : Part → Handed → Picture → (Picture → Read Picture) → Read Picture
-join AtHead g x on = on (picture_from first g.head ([], ([], ([], tt))))
-join AtEntry g x on = on (record { partition = x.partition; count = x.count; tables = with_entries x.tables (x.tables.entries ++ g.entry ∷ []) })
-join AtBackpointer g x on = on (record { partition = x.partition; count = x.count; tables = with_backpointers x.tables (x.tables.backpointers ++ g.backpointer ∷ []) })
-join AtRecord g x on = on (record { partition = x.partition; count = x.count; tables = with_records x.tables (x.tables.records ++ g.log ∷ []) })
-join AtClose g x on = more x []
-join AtRefusal g x on = fail g.refusal
+unfoldable pub join : Part → Picture → (Picture → Read Picture) → Read Picture
+join (HeadPart h) x on = on (picture_from first h ([], ([], ([], tt))))
+join (EntryPart e) x on = on (record { partition = x.partition; count = x.count; tables = with_entries x.tables (x.tables.entries ++ e ∷ []) })
+join (BackpointerPart b) x on = on (record { partition = x.partition; count = x.count; tables = with_backpointers x.tables (x.tables.backpointers ++ b ∷ []) })
+join (RecordPart r) x on = on (record { partition = x.partition; count = x.count; tables = with_records x.tables (x.tables.records ++ r ∷ []) })
+join Close x on = more x []
+join (Refused why) x on = fail why
 
 -- what was handed out, put together behind x; too few steps end early
 unfoldable pub together : Picture → List Handed → Read Picture
 together x [] = fail EndsEarly
-together x (g ∷ gs) = join g.part g x (λ y. together y gs)
+together x (g ∷ gs) = join g.part x (λ y. together y gs)
 
 -- a header, as many entries, back-pointers and records as there may be, and the close
 abbrev pub most_steps : ℕ

@@ -14,63 +14,48 @@ pub struct Reader<'a> {
     pub at: usize,
 }
 
-fn record_at(s: &[u8], at: usize) -> Handed
-    ensures { result ≡ handed_at s.now at }
-{
-    standing::record_at(s, at)
-}
+impl<'a> Reader<'a> {
+    // At the picture's start.
+    pub fn new(src: &'a [u8]) -> Reader<'a>
+        ensures { (result.src ≡ src.entry) × (result.at ≡ 0) }
+    {
+        Reader { src, at: 0 }
+    }
 
-fn next_at(s: &[u8], at: usize) -> usize
-    ensures { result ≡ (handed_at s.now at).next }
-{
-    let got = record_at(s, at);
-    got.next
-}
+    // The record at which the reader stands.
+    pub fn item(self) -> Handed
+        ensures { result ≡ handed_at self.entry.src.now self.entry.at }
+    {
+        standing::record_at(self.src, self.at)
+    }
 
-fn next_of(h: Handed) -> usize
-    ensures { result ≡ h.next }
-{
-    h.next
-}
+    // The reader past that record. It stays at the close and at a refusal.
+    pub fn next(self) -> Reader<'a>
+        ensures { (result.src ≡ self.entry.src) × (result.at ≡ (handed_at self.entry.src.now self.entry.at).next) }
+    {
+        Reader {
+            at: self.item().next,
+            ..self
+        }
+    }
 
-// At the picture's start.
-pub fn new<'a>(src: &'a [u8]) -> Reader<'a>
-    ensures { (result.src ≡ src.entry) × (result.at ≡ 0) }
-{
-    Reader { src, at: 0 }
-}
-
-// The record at which the reader stands.
-pub fn item<'a>(r: Reader<'a>) -> Handed
-    ensures { result ≡ handed_at r.entry.src.now r.entry.at }
-{
-    record_at(r.src, r.at)
-}
-
-// The reader past that record. It stays at the close and at a refusal.
-pub fn next<'a>(r: Reader<'a>) -> Reader<'a>
-    ensures { (result.src ≡ r.entry.src) × (result.at ≡ (handed_at r.entry.src.now r.entry.at).next) }
-{
-    let at = next_at(r.src, r.at);
-    Reader { src: r.src, at }
+    // Hands out the record at which the reader stands, and moves it past that record.
+    pub fn take(&mut self) -> Handed
+        ensures { (result ≡ handed_at self.old.src.now self.old.at)
+            × (self.new.src ≡ self.old.src)
+            × (self.new.at ≡ (handed_at self.old.src.now self.old.at).next) }
+    {
+        let handed = self.item();
+        self.at = handed.next;
+        handed
+    }
 }
 
 // The record behind a picture's header: the form in which whoever has plain parameters uses the reader.
 pub fn second(s: &[u8]) -> Handed
     ensures { result ≡ handed_at s.now (handed_at s.now 0).next }
 {
-    item(next(new(s)))
-}
-
-// Hands out the record at which the reader stands, and moves it past that record.
-pub fn take<'s, 'a>(r: &'s mut Reader<'a>) -> Handed
-    ensures { (result ≡ handed_at r.old.src.now r.old.at)
-        × (r.new.src ≡ r.old.src)
-        × (r.new.at ≡ (handed_at r.old.src.now r.old.at).next) }
-{
-    let h = record_at(r.src, r.at);
-    r.at = next_of(h);
-    h
+    Reader::new(s).next().item()
 }
 
 // What is proved of a reader that is run to its end: the contract states it, and the function does nothing.

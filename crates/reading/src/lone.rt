@@ -1,45 +1,29 @@
 // The check of a lone picture: what the reader says of it, and then what its tables show alone.
 ghost use Rattle.std.specs.Prelude.{◌≡◌};
-ghost use Rattle.tables.specs.View.{view_partition, Ranged};
-ghost use Rattle.picture.specs.Lone.{order_alone, lone};
+ghost use Rattle.tables.specs.View.{view_partition};
+ghost use Rattle.picture.specs.Lone.{order_alone, checked};
 
 use crate::read_picture;
-use numbers::accepted;
+use partitions::{are_apart, has_room};
 use protocol::Refusal;
 use tables::Partition;
 
 // O2, O3, O5 and the first half of O4.
-fn order_alone(x: Partition) -> bool
-    requires { Ranged x }
-    ensures { result ≡ order_alone (view_partition x) }
+fn order_alone(x: &Partition) -> bool
+    ensures { result ≡ order_alone (view_partition x.now) }
 {
-    let entries = x.entries;
-    if partitions::entries_apart(entries) {} else {
-        return false;
-    }
-    let records = x.records;
-    if partitions::records_apart(records) {} else {
-        return false;
-    }
-    if partitions::has_room(entries, records) {} else {
-        return false;
-    }
-    let backpointers = x.backpointers;
-    partitions::backpointers_apart(backpointers)
+    are_apart(x.entries.listed())
+        && are_apart(x.records.listed())
+        && has_room(&x.entries, &x.records)
+        && are_apart(x.backpointers.listed())
 }
 
-pub fn check(bytes: &[u8]) -> Refusal
-    ensures { result ≡ lone bytes.now }
+pub fn check(bytes: &[u8]) -> Result<(), Refusal>
+    ensures { result ≡ checked bytes.now }
 {
-    let got = read_picture(bytes);
-    let refusal = got.refusal;
-    if accepted(refusal) {} else {
-        return refusal;
+    let picture = read_picture(bytes)?;
+    if !order_alone(&picture.tables) {
+        return Err(Refusal::OutOfOrder);
     }
-    let shown = got.tables;
-    if order_alone(shown) {
-        Refusal::Accepted
-    } else {
-        Refusal::OutOfOrder
-    }
+    Ok(())
 }

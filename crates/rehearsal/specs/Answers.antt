@@ -1,22 +1,21 @@
 -- What a line answers, behind its own number: numbers in an array with a count.
-use Rattle.std.specs.Prelude.{List, [], ◌∷◌, ◌+◌, ℕ, length, set, take}
+use Rattle.std.specs.Prelude.{List, [], ◌∷◌, ◌+◌, ℕ, length, take}
 use Rattle.lists.specs.Lists.{each, pad}
-pub use Rattle.rehearsal.specs.declared.Numbers.{Numbers}
+use Rattle.lists.specs.declared.Bounded.{Bounded}
 
 -- the refusal and sixteen queue lengths are the most that a line gives behind its own number
 abbrev pub max_numbers : ℕ
 max_numbers = 17
 
+abbrev pub Numbers : Type 0
+Numbers = Bounded ℕ max_numbers
+
 abbrev pub numbers_of : Numbers → List ℕ
-numbers_of x = take x.count x.values
+numbers_of x = take x.count x.items
 
 -- the places behind the count are zero
 unfoldable pub stored : List ℕ → Numbers
-stored ns = record { count = length ns; values = pad max_numbers 0 ns }
-
--- one number more
-abbrev pub pushed : Numbers → ℕ → Numbers
-pushed x n = record { count = x.count + 1; values = set x.values x.count n }
+stored ns = record { count = length ns; items = pad max_numbers 0 ns }
 
 -- ---- a square of numbers, row after row
 unfoldable pub row : ℕ → (ℕ → ℕ) → List ℕ

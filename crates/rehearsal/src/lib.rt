@@ -4,6 +4,7 @@
 
 ghost use Rattle.rehearsal.specs.Claims.{Worked, OneReading, ReadBack, ShortText, OneText};
 
+use lists::Bounded;
 use names::Name;
 
 // The bytes of a line, the LF that ends it not counted.
@@ -16,20 +17,15 @@ pub const SPACE: u8 = 32;
 
 pub const LF: u8 = 10;
 
-pub const BASE: u64 = 10;
+pub const BASE: u32 = 10;
 
 pub const DIGIT_ZERO: u8 = 48;
-
-pub const DIGIT_NINE: u8 = 57;
 
 // So many numbers a line of the output has at most behind its own: the refusal and sixteen queue lengths.
 pub const NUMBERS: usize = 17;
 
 // The side of the square of queue lengths.
 pub const SIDE: usize = 4;
-
-// The largest number of a line.
-pub const LARGEST_NUMBER: u64 = 4294967295;
 
 #[derive(Clone, Copy)]
 pub enum Verb {
@@ -57,11 +53,7 @@ pub struct Command {
 }
 
 // What a line answers, behind its own number.
-#[derive(Clone, Copy)]
-pub struct Numbers {
-    pub count: usize,
-    pub values: [u32; NUMBERS],
-}
+pub type Numbers = Bounded<u32, NUMBERS>;
 
 pub fn claims()
     ensures { Worked × OneReading × ReadBack × ShortText × OneText }

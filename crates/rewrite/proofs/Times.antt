@@ -4,37 +4,35 @@ use mathlib.Core.Path.{◌∙◌, ◌≡◌, ap, refl, sym}
 use Prim.Native.Nat.{◌+◌, ◌<◌, ◌≤◌, suc, zero, ℕ}
 use native.Mathlib.Omega.{arith}
 use lib.Dec.{leb}
-use lib.ListN.{length, take}
+use lib.ListN.{length}
 use lib.Seq.{length-take-le}
 use borrow.Author.Tests.{le-ltb, leb-true, lt-ltb}
 use Rattle.protocol.specs.Events.{crashing, opening}
 use Rattle.protocol.specs.Order.{in_order}
 use Rattle.protocol.specs.Tables.{fresh, is_partition}
-use Rattle.protocol.specs.declared.Refusal.TheVariants.{Accepted}
+use Rattle.std.specs.Prelude.{None, Option, Some, Err, IfOk, Ok, Result}
+use Rattle.protocol.specs.declared.Refusal.{Refusal}
 use Rattle.tables.specs.View.{pack, shaped, view}
 use Rattle.tables.specs.declared.Tables.{Tables}
 use Rattle.answers.specs.Called.{called}
 use Rattle.answers.specs.declared.Answered.{Answered}
-use Rattle.picture.specs.Store.{Written, store, written_into}
+use Rattle.picture.specs.Store.{Written, size_of, store, written_into}
 use Rattle.picture.specs.declared.Head.{Head}
 use Rattle.writing.specs.Written.{after, written_from}
-use Rattle.writing.specs.declared.Reported.{Reported}
 use Rattle.loading.specs.Loaded.{loaded}
 use Rattle.lines.specs.Places.{number_at}
-use Rattle.lines.specs.declared.Number.{Number}
-use Rattle.lines.specs.declared.Number.TheVariants.{None, Value}
 use Rattle.lists.proofs.Tests.{by_test}
 use Rattle.codec.proofs.Puts.{length_over}
-use Rattle.rewrite.specs.Again.{again, awaiting, filling, times_of}
+use Rattle.rewrite.specs.Again.{Counts, again, awaiting, filling, times_of}
 
 -- ---- how often
 
-module _ (word : List ℕ) (m : Number) (e : m ≡ number_at word 0) where
+module _ (word : List ℕ) (m : Option (ℕ × ℕ)) (e : m ≡ number_at word 0) where
   pub times-numberless : m ≡ None → 0 ≡ times_of word
   times-numberless h = ap (filling (length word)) (sym h ∙ e)
 
-  module _ (n next : ℕ) (h : m ≡ Value n next) where
-    told_of : filling (length word) (Value n next) ≡ times_of word
+  module _ (n next : ℕ) (h : m ≡ Some (n, next)) where
+    told_of : filling (length word) (Some (n, next)) ≡ times_of word
     told_of = ap (filling (length word)) (sym h ∙ e)
 
     pub times-with-more : next < length word → 0 ≡ times_of word
@@ -58,7 +56,7 @@ loads h p t bs a pe et ea = rw (ea, et, pe) refl
 -- ---- what is reported stands in the room
 
 abbrev Fits : Written → Type 0
-Fits w = w.size ≤ length w.room
+Fits w = size_of w.told ≤ length w.room
 
 into-fits : (bs room : List ℕ) → Fits (written_into bs room)
 unfolding written_into
@@ -82,26 +80,29 @@ module _ (t : Tables) (p : ℕ) (room : List ℕ) where
   again-fits zero = omega arith
   again-fits (suc n) = from-fits t p _
 
-  module _ (n : ℕ) (r : Reported) (l : List ℕ) (e : after r l ≡ again t p n room) where
-    pub again-within : r.size ≤ length l
-    unfolding after
-    again-within = rw (ap (λ (w : Written). w.size) e, ap (λ (w : Written). w.room) e) (again-fits n)
+  module _ (n : ℕ) (r : Result ℕ Refusal) (l : List ℕ) (e : after r l ≡ again t p n room) where
+    pub again-within : size_of r ≤ length l
+    again-within = rw (ap (λ (w : Written). w.told) e, ap (λ (w : Written). w.room) e) (again-fits n)
 
-    pub again-taken : r.size ≡ length (take r.size l)
-    again-taken = sym (length-take-le r.size l again-within)
+    pub again-counts : IfOk r (λ size. Counts size l)
+    again-counts = over r again-within
+      where
+        over : (r : Result ℕ Refusal) → size_of r ≤ length l → IfOk r (λ size. Counts size l)
+        over (Ok n) h = (h, sym (length-take-le n l h))
+        over (Err why) h = search
 
     pub again-ended : (m : ℕ) → n ≤ m → m ≤ n → after r l ≡ again t p m room
     again-ended m a b = let h : n ≡ m = omega arith in rw (← h) e
 
     -- once more
-    pub again-more : (s : Reported) (next : List ℕ) → after s next ≡ written_from t p l → after s next ≡ again t p (n + 1) room
-    unfolding again after
+    pub again-more : (s : Result ℕ Refusal) (next : List ℕ) → after s next ≡ written_from t p l → after s next ≡ again t p (n + 1) room
+    unfolding again
     again-more s next h =
         let one : n + 1 ≡ suc n = omega arith in
         rw one (h ∙ ap (λ (w : Written). written_from t p w.room) e)
 
-pub again-none : (t : Tables) (p : ℕ) (room : List ℕ) → after (record { refusal = Accepted; size = 0 }) room ≡ again t p 0 room
-unfolding again after
+pub again-none : (t : Tables) (p : ℕ) (room : List ℕ) → after (Ok 0) room ≡ again t p 0 room
+unfolding again
 again-none t p room = refl
 
-pub ruleset repeating = (again-none, again-within, again-taken, again-ended, again-more)
+pub ruleset repeating = (again-none, again-counts, again-ended, again-more)

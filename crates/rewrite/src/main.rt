@@ -4,21 +4,21 @@
 // is a back-pointer of another partition's (16), since in fresh tables the others have given no number.
 #![tactic(auto)]
 
-ghost use Rattle.std.specs.Prelude.{◌≡◌, ◌≤◌, length};
+ghost use Rattle.std.specs.Prelude.{◌≡◌, ◌≤◌, length, IfOk};
 ghost use Rattle.loading.specs.Loaded.{loaded};
 ghost use Rattle.writing.specs.Written.{after};
 ghost use Rattle.rewrite.specs.Again.{Counts, again, awaiting, times_of};
 
 use answers::Answered;
-use lines::{Number, number_at};
-use numbers::{accepted, refusal_number};
+use lines::number_at;
+use numbers::refusal_number;
 use picture::Head;
 use protocol::Refusal;
 use reading::read_picture;
 use std::io::{self, Read, Write};
 use std::rt::Env;
 use tables::Tables;
-use writing::{Reported, write_picture};
+use writing::write_picture;
 
 // More bytes than the largest picture has, 2,620: a picture that fills a buffer is refused.
 const BUFFER: usize = 4096;
@@ -27,7 +27,7 @@ const BUFFER: usize = 4096;
 fn times_of(word: &[u8]) -> u32
     ensures { result ≡ times_of word.now }
 {
-    let Number::Value(times, next) = number_at(word, 0) else {
+    let Some((times, next)) = number_at(word, 0) else {
         return 0;
     };
     if next < word.len() {
@@ -41,70 +41,49 @@ fn times_of(word: &[u8]) -> u32
 fn awaiting(head: Head) -> Tables
     ensures { result ≡ awaiting head }
 {
-    let none = tables::fresh::fresh(0);
-    let opened = events::open(none, head.count as u32);
-    let fresh = opened.tables;
-    let crashed = events::crash(fresh, head.partition as u32);
-    crashed.tables
+    let opened = events::open(tables::fresh::fresh(0), u32::from(head.count));
+    events::crash(opened.tables, u32::from(head.partition)).tables
 }
 
 fn load_alone(head: Head, bytes: &[u8]) -> Answered
     ensures { result ≡ loaded (awaiting head) head.partition bytes.now }
 {
-    let t = awaiting(head);
-    loading::load(t, head.partition as u32, bytes)
+    loading::load(awaiting(head), u32::from(head.partition), bytes)
 }
 
 // Each time the whole of the picture is written over what the time before it left.
-fn write_times(t: Tables, p: u32, times: u32, room: &mut [u8]) -> Reported
+fn write_times(t: Tables, p: u32, times: u32, room: &mut [u8]) -> Result<usize, Refusal>
     ensures room_after { after result room.new ≡ again t p times room.old }
-    ensures prefix_len { Counts result.size room.new }
+    ensures prefix_len { IfOk result (λ size. Counts size room.new) }
 {
-    let mut told = Reported {
-        refusal: Refusal::Accepted,
-        size: 0,
-    };
-    let mut k: u32 = 0;
-    while k < times {
+    let mut told = Ok(0);
+    for _time in 0..times {
         told = write_picture(t, p, room);
-        k += 1;
     }
     told
 }
 
-fn tell(rt: &HostRuntime, why: Refusal) -> io::Result<()> {
-    let number = refusal_number(why);
-    println!(rt; "{number}")
-}
-
-// The picture where it was written, or else why it was not.
-fn show(rt: &HostRuntime, told: Reported, room: &[u8]) -> io::Result<()>
-    requires { Counts told.size room.now }
+// The picture's size in the room, once it is loaded and written, or why it is not.
+fn rewritten(bytes: &[u8], times: u32, room: &mut [u8]) -> Result<usize, Refusal>
+    ensures { IfOk result (λ size. Counts size room.new) }
 {
-    let refusal = told.refusal;
-    if accepted(refusal) {} else {
-        return tell(rt, refusal);
+    let head = read_picture(bytes)?.head;
+    let loaded = load_alone(head, bytes);
+    if loaded.answer.refusal != Refusal::Accepted {
+        return Err(loaded.answer.refusal);
     }
-    let size = told.size;
-    rt.stdout().write_all(&room[..size])
+    write_times(loaded.tables, u32::from(head.partition), times, room)
 }
 
+// The picture where it was written, or else the number of the refusal.
 fn rewrite(rt: &HostRuntime, bytes: &[u8], times: u32, room: &mut [u8]) -> io::Result<()> {
-    let got = read_picture(bytes);
-    let first = got.refusal;
-    if accepted(first) {} else {
-        return tell(rt, first);
+    match rewritten(bytes, times, room) {
+        Ok(size) => rt.stdout().write_all(&room[..size]),
+        Err(why) => {
+            let number = refusal_number(why);
+            println!(rt; "{number}")
+        }
     }
-    let head = got.head;
-    let loaded = load_alone(head, bytes);
-    let answer = loaded.answer;
-    let second = answer.refusal;
-    if accepted(second) {} else {
-        return tell(rt, second);
-    }
-    let t = loaded.tables;
-    let told = write_times(t, head.partition as u32, times, room);
-    show(rt, told, room)
 }
 
 // Reads until the buffer is full, the input ends or a read fails, and says how many bytes it has then.
@@ -112,6 +91,7 @@ fn read_full<R: Read>(from: &mut R, bytes: &mut [u8]) -> usize
     ensures { result ≤ length bytes.new }
 {
     let mut size: usize = 0;
+    // Each read says how much it filled, so no iterator has the turns.
     while size < bytes.len() {
         match from.read(&mut bytes[size..]) {
             Ok(0) => return size,

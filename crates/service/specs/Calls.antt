@@ -5,6 +5,7 @@ use Rattle.protocol.specs.Tables.{fresh}
 use Rattle.tables.specs.View.{pack}
 use Rattle.tables.specs.declared.Tables.{Tables}
 use Rattle.answers.specs.Called.{called}
+use Rattle.picture.specs.Store.{size_of}
 use Rattle.writing.specs.Written.{written_from}
 
 -- the tables after calls, each accepted or refused
@@ -18,4 +19,4 @@ reached_by k es = after_calls es (pack (fresh k))
 
 -- the bytes that the writer reports, of the room that it was lent
 abbrev pub picture_in : Tables → ℕ → List ℕ → List ℕ
-picture_in t p room = take (written_from t p room).size (written_from t p room).room
+picture_in t p room = take (size_of (written_from t p room).told) (written_from t p room).room

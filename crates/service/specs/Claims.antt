@@ -1,5 +1,5 @@
 -- What is proved of the calls together: demands 1 to 3 on the tables as they are stored, whatever calls came before.
-use Rattle.std.specs.Prelude.{false, true, List, ◌≡◌, ◌≤◌, ℕ, length}
+use Rattle.std.specs.Prelude.{false, true, List, ◌≡◌, ◌≤◌, ℕ, length, Result}
 use Rattle.lists.specs.Lists.{all}
 use Rattle.protocol.specs.Bounds.{max_partitions}
 use Rattle.protocol.specs.Claims.{Decides, Ends, Takes}
@@ -8,6 +8,7 @@ use Rattle.protocol.specs.Events.{crashing, Event, apply, run}
 use Rattle.protocol.specs.Order.{in_order}
 use Rattle.protocol.specs.Settle.{settle}
 use Rattle.protocol.specs.Tables.{Model, fresh, is_partition, partition}
+use Rattle.protocol.specs.declared.Refusal.{Refusal}
 use Rattle.protocol.specs.declared.Refusal.TheVariants.{Accepted}
 use Rattle.protocol.specs.declared.Tally.{Tally}
 use Rattle.tables.specs.View.{pack, view}
@@ -20,7 +21,6 @@ use Rattle.protocol.specs.declared.Reply.TheVariants.{None}
 use Rattle.codec.specs.Codec.{is_byte}
 use Rattle.picture.specs.Picture.{largest_picture}
 use Rattle.writing.specs.Written.{after, written_from}
-use Rattle.writing.specs.declared.Reported.{Reported}
 use Rattle.loading.specs.Loaded.{loaded}
 use Rattle.service.specs.Calls.{picture_in, reached_by}
 
@@ -60,5 +60,5 @@ pub record OneOutcome : Type 0 where
   pub event : (e : Event) → Decides (λ (t : Tables) (a : Answered). a ≡ called t e)
   pub settle : (n : ℕ) (y : Tally) → Decides (λ (t : Tables) (s : Settled). s ≡ settled t n y)
   pub load : (p : ℕ) (bs : List ℕ) → Decides (λ (t : Tables) (a : Answered). a ≡ loaded t p bs)
-  pub write_reports : (t : Tables) (p : ℕ) (room : List ℕ) (r s : Reported) (a b : List ℕ) → after r a ≡ written_from t p room → after s b ≡ written_from t p room → r ≡ s
-  pub write_leaves : (t : Tables) (p : ℕ) (room : List ℕ) (r s : Reported) (a b : List ℕ) → after r a ≡ written_from t p room → after s b ≡ written_from t p room → a ≡ b
+  pub write_reports : (t : Tables) (p : ℕ) (room : List ℕ) (r s : Result ℕ Refusal) (a b : List ℕ) → after r a ≡ written_from t p room → after s b ≡ written_from t p room → r ≡ s
+  pub write_leaves : (t : Tables) (p : ℕ) (room : List ℕ) (r s : Result ℕ Refusal) (a b : List ℕ) → after r a ≡ written_from t p room → after s b ≡ written_from t p room → a ≡ b

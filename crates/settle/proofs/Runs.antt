@@ -4,7 +4,7 @@ use mathlib.Core.Path.{◌∙◌, ◌≡◌, ap, refl, sym}
 use Prim.Native.Nat.{◌+◌, ◌-◌, ◌<◌, ◌≤◌, suc, zero, ℕ}
 use native.Mathlib.Numerals.{add-one}
 use native.Mathlib.Omega.{arith}
-use Rattle.lists.proofs.Tests.{and_left, and_right, by_test, no_true}
+use Rattle.lists.proofs.Tests.{and_left, and_right, by_test}
 use Rattle.protocol.specs.Bounds.{largest_number}
 use Rattle.protocol.specs.Elements.{is_one, is_other}
 use Rattle.protocol.specs.Events.{Event, bare}
@@ -21,6 +21,7 @@ use Rattle.tables.specs.declared.Tables.{Tables}
 use Rattle.tables.proofs.Packs.{pack-view, view-pack}
 use Rattle.tables.proofs.Shapes.{order-shaped}
 use Rattle.answers.specs.Called.{Ready}
+use Rattle.std.specs.Prelude.{None, Some}
 use Rattle.steps.specs.Stepped.{step_of}
 use Rattle.steps.specs.declared.Step.{Step}
 use Rattle.settle.specs.Settled.{Counts, Settled, settled, settled_on}
@@ -34,39 +35,29 @@ in-order-ready m u o e =
 
 -- ---- the two ways on
 
-module _ (t : Tables) (a : Step) where
-  stays : a ≡ step_of t nothing → a.moved ≡ false
+module _ (t : Tables) (e : Event) (a : Step) (h : Some a ≡ step_of t (found e)) where
+  replies : a.reply ≡ (bare e (view t)).answer.reply
   unfolding step_of
-  stays h = ap (λ (s : Step). s.moved) h
+  replies = cc
 
-  module _ (e : Event) (h : a ≡ step_of t (found e)) where
-    moves : a.moved ≡ true
-    unfolding step_of
-    moves = ap (λ (s : Step). s.moved) h
+  leaves : a.tables ≡ pack (bare e (view t)).model
+  unfolding step_of
+  leaves = cc
 
-    replies : a.reply ≡ (bare e (view t)).answer.reply
-    unfolding step_of
-    replies = ap (λ (s : Step). s.reply) h
+-- a step was accepted, or none was
+some-found : (t : Tables) (x : Found) (a : Step) → Some a ≡ step_of t x → x ≡ nothing → {A : Type 0} → A
+unfolding step_of
+some-found t nothing a h e = cc
+some-found t (found c) a h e = cc
 
-    leaves : a.tables ≡ pack (bare e (view t)).model
-    unfolding step_of
-    leaves = ap (λ (s : Step). s.tables) h
+none-found : (t : Tables) (x : Found) → None ≡ step_of t x → x ≡ nothing
+unfolding step_of
+none-found t nothing h = refl
+none-found t (found c) h = cc
 
 plus-most : (b : Bool) (k j : ℕ) → k ≤ j → plus_if b k ≤ suc j
 plus-most true k j h = omega arith
 plus-most false k j h = omega arith
-
--- ---- the tally
-
-pub plus_one : (b : Bool) (n : ℕ) → b ≡ true → n + 1 ≡ plus_if b n
-plus_one b n e = rw (e, add-one n) refl
-
-pub plus_none : (b : Bool) (n : ℕ) → b ≡ false → n ≡ plus_if b n
-plus_none b n e = rw e refl
-
-pub tally-more : (reply : Reply) (y : Tally) (a b : Bool) (ones others : ℕ) → a ≡ is_one reply → b ≡ is_other reply → ones ≡ plus_if a y.ones → others ≡ plus_if b y.others
-    → record { steps = y.steps + 1; ones = ones; others = others } ≡ tallied reply y
-tally-more reply y a b ones others ea eb e f = rw (e, f, ea, eb, add-one y.steps) refl
 
 -- ---- a run
 
@@ -79,15 +70,16 @@ pub record Running (t : Tables) (n : ℕ) (k : ℕ) (y : Tally) (u : Tables) : T
   pub ones : y.ones ≤ y.steps
   pub others : y.others ≤ y.steps
 
-pub run-start : (t : Tables) (n : ℕ) (y : Tally) → Sized t → Ready t → y ≡ zero_tally → Running t n n y t
+pub run-start : (t : Tables) (n : ℕ) (y : Tally) → Sized t → Ready t → y ≡ zero_tally → Running t n (n - 0) y t
 run-start t n y z r e =
-    record { ready = r; packed = pack-view t z r.shaped; rest = ap (λ (x : Tally). settle_by bare n x (view t)) e; steps = rw e (omega arith); ones = rw e (omega arith); others = rw e (omega arith) }
+    let q : n - 0 ≡ n = omega arith in
+    rw q (record { ready = r; packed = pack-view t z r.shaped; rest = ap (λ (x : Tally). settle_by bare n x (view t)) e; steps = rw e (omega arith); ones = rw e (omega arith); others = rw e (omega arith) })
 
 module _ (t : Tables) (n k : ℕ) (y : Tally) (u : Tables) (w : Running t n k y u) where
   pub run-ready : Ready u
   run-ready = w.ready
 
-  pub run-counts : 0 < k → n ≤ largest_number → Counts y
+  run-counts : 0 < k → n ≤ largest_number → Counts y
   run-counts h b =
       let a = w.steps in let c = w.ones in let d = w.others in record { steps = omega arith; ones = omega arith; others = omega arith }
 
@@ -102,39 +94,48 @@ module _ (t : Tables) (n k : ℕ) (y : Tally) (u : Tables) (w : Running t n k y 
   unfolding settle_by
   run-over s b h = let q : k ≡ zero = omega arith in at_rest s (rw q refl) h
 
-  module _ (h : 0 < k) (a : Step) (e : a ≡ step_of u (first_accepted bare (view u) (candidates (view u)))) where
+  module _ (h : 0 < k) where
     left : k ≡ suc (k - 1)
     left = omega arith
 
-    pub run-rests : (s : Settled) → a.moved ≡ false → s ≡ record { refusal = Accepted; tally = y; tables = u }
+    run-rests : (s : Settled) → None ≡ step_of u (first_accepted bare (view u) (candidates (view u))) → s ≡ record { refusal = Accepted; tally = y; tables = u }
         → s ≡ settled_on t (settle_by bare n zero_tally (view t))
-    run-rests s f g = go (first_accepted bare (view u) (candidates (view u))) refl
-      where
-        go : (x : Found) → first_accepted bare (view u) (candidates (view u)) ≡ x → s ≡ settled_on t (settle_by bare n zero_tally (view t))
-        go nothing q = at_rest s (ap (λ (j : ℕ). settle_by bare j y (view u)) left ∙ settle-nothing bare (k - 1) y (view u) q) g
-        go (found v) q = no_true (moves u a v (e ∙ ap (step_of u) q)) f
+    run-rests s e g =
+        at_rest s (ap (λ (j : ℕ). settle_by bare j y (view u)) left ∙ settle-nothing bare (k - 1) y (view u) (none-found u _ e)) g
 
-    pub run-turn : (reply : Reply) (v : Tables) (x : Tally) → a.moved ≡ true → reply ≡ a.reply → v ≡ a.tables → x ≡ tallied reply y → Running t n (k - 1) x v
-    run-turn reply v x f er ev ex = go (first_accepted bare (view u) (candidates (view u))) refl
+    run-turn : (a : Step) → Some a ≡ step_of u (first_accepted bare (view u) (candidates (view u))) → (x : Tally) → x ≡ tallied a.reply y → Running t n (k - 1) x a.tables
+    run-turn a e x ex = go (first_accepted bare (view u) (candidates (view u))) refl
       where
-        go : (z : Found) → first_accepted bare (view u) (candidates (view u)) ≡ z → Running t n (k - 1) x v
-        go nothing q = no_true f (stays u a (e ∙ ap (step_of u) q))
+        go : (z : Found) → first_accepted bare (view u) (candidates (view u)) ≡ z → Running t n (k - 1) x a.tables
+        go nothing q = some-found u _ a e q
         go (found c) q =
-            let p : a ≡ step_of u (found c) = e ∙ ap (step_of u) q in
-            let ir : reply ≡ (bare c (view u)).answer.reply = er ∙ replies u a c p in
-            let iv : v ≡ pack (bare c (view u)).model = ev ∙ leaves u a c p in
-            let im : view v ≡ (bare c (view u)).model = ap view iv ∙ view-pack _ in
+            let p : Some a ≡ step_of u (found c) = e ∙ ap (step_of u) q in
+            let ir : a.reply ≡ (bare c (view u)).answer.reply = replies u c a p in
+            let iv : a.tables ≡ pack (bare c (view u)).model = leaves u c a p in
+            let im : view a.tables ≡ (bare c (view u)).model = ap view iv ∙ view-pack _ in
             let s = w.steps in let i = w.ones in let j = w.others in
             record {
-              ready = in-order-ready (bare c (view u)).model v (keeps-order c (view u) w.ready.order) iv;
+              ready = in-order-ready (bare c (view u)).model a.tables (keeps-order c (view u) w.ready.order) iv;
               packed = ap pack im ∙ sym iv;
               rest = ap (settle_by bare (k - 1) x) im
                   ∙ ap (λ (y' : Tally). settle_by bare (k - 1) y' (bare c (view u)).model) (ex ∙ ap (λ (l : Reply). tallied l y) ir)
                   ∙ sym (settle-found bare (k - 1) y (view u) c q) ∙ ap (λ (j : ℕ). settle_by bare j y (view u)) (sym left) ∙ w.rest;
               steps = rw ex (omega arith);
-              ones = rw ex (plus-most (is_one reply) y.ones y.steps i);
-              others = rw ex (plus-most (is_other reply) y.others y.steps j);
+              ones = rw ex (plus-most (is_one a.reply) y.ones y.steps i);
+              others = rw ex (plus-most (is_other a.reply) y.others y.steps j);
             }
+
+-- i steps are taken
+module _ (t : Tables) (n i : ℕ) (y : Tally) (u : Tables) (w : Running t n (n - i) y u) (h : i < n) where
+  pub turn-counts : n ≤ largest_number → Counts y
+  turn-counts b = run-counts t n (n - i) y u w (omega arith) b
+
+  pub turn-rests : (s : Settled) → None ≡ step_of u (first_accepted bare (view u) (candidates (view u))) → s ≡ record { refusal = Accepted; tally = y; tables = u }
+      → s ≡ settled_on t (settle_by bare n zero_tally (view t))
+  turn-rests s e g = run-rests t n (n - i) y u w (omega arith) s e g
+
+  pub turn-on : (a : Step) → Some a ≡ step_of u (first_accepted bare (view u) (candidates (view u))) → (x : Tally) → x ≡ tallied a.reply y → Running t n (n - (i + 1)) x a.tables
+  turn-on a e x ex = let q : n - (i + 1) ≡ (n - i) - 1 = omega arith in rw q (run-turn t n (n - i) y u w (omega arith) a e x ex)
 
 -- ---- the test of the order comes first
 
@@ -152,8 +153,6 @@ module _ (t : Tables) (n : ℕ) (y : Tally) (b : Bool) (e : b ≡ (shaped t && i
       (λ s1. let o : in_order (view t) ≡ false = (rw s1 at (sym e)) ∙ f in h ∙ rw (s1, settle-refuses n y (view t) o) refl)
       (λ s1. h ∙ rw s1 refl)
 
-pub ruleset runs = (run-start, run-ready, run-counts, run-over, run-rests, run-turn)
-
-pub ruleset tallies = (plus_one, plus_none, tally-more)
+pub ruleset runs = (run-start, run-ready, run-over, turn-counts, turn-rests, turn-on)
 
 pub ruleset settles = (settle-tested, settle-untidy)

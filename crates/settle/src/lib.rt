@@ -12,7 +12,7 @@ use tables::Tables;
 
 pub mod run; // steps until none is accepted, counted
 
-// What a settling run gives.
+// What a settling run gives. No Result: a refused run gives back its tally and its tables too (`settled`).
 #[derive(Clone, Copy)]
 pub struct Settled {
     pub refusal: Refusal,
@@ -25,7 +25,7 @@ pub fn settle(t: Tables, n: u32, tally: &mut Tally) -> Answered
     ensures { (result ≡ reported (settled t n tally.old)) × (tally.new ≡ (settled t n tally.old).tally) }
 {
     let s = run::settle_by_value(t, n, *tally);
-    *tally = run::tally_of(s);
+    *tally = s.tally;
     run::report(s)
 }
 
@@ -35,5 +35,9 @@ pub fn settle_alone(t: Tables, n: u32) -> Settled
 {
     let mut tally = run::zero_tally();
     let a = settle(t, n, &mut tally);
-    run::both(a, tally)
+    Settled {
+        refusal: a.answer.refusal,
+        tally,
+        tables: a.tables,
+    }
 }

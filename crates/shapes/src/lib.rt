@@ -2,112 +2,32 @@
 #![tactic(auto)]
 
 ghost use Rattle.std.specs.Prelude.{◌≡◌};
-ghost use Rattle.tables.specs.View.{shaped_entries, shaped_backpointers, shaped_records, shaped_queue, shaped_partition, absent};
+ghost use Rattle.lists.specs.Lists.{tidy};
+ghost use Rattle.tables.specs.View.{shaped_partition, absent};
 
-use tables::{
-    Backpointers, Entries, MAX_BACKPOINTERS, MAX_ENTRIES, MAX_MESSAGES, MAX_RECORDS, Partition,
-    Queue, Records,
-};
+use lists::Bounded;
+use tables::Partition;
+use tables::elements::Slot;
 
-pub fn entries_shaped(x: Entries) -> bool
-    ensures { result ≡ shaped_entries x }
+pub fn is_shaped<T: Slot, const N: usize>(l: &Bounded<T, N>) -> bool
+    ensures { result ≡ tidy N T.free l.now.count l.now.items }
 {
-    let count = x.count;
-    if MAX_ENTRIES < count {
-        return false;
-    }
-    let mut i = count;
-    while i < MAX_ENTRIES {
-        let slot = x.items[i];
-        if tables::elements::free_entry(slot) {
-            i += 1;
-        } else {
-            return false;
-        }
-    }
-    true
+    l.count <= N && l.unused().iter().all(|slot| slot.is_free())
 }
 
-pub fn backpointers_shaped(x: Backpointers) -> bool
-    ensures { result ≡ shaped_backpointers x }
+pub fn partition_shaped(p: &Partition) -> bool
+    ensures { result ≡ shaped_partition p.now }
 {
-    let count = x.count;
-    if MAX_BACKPOINTERS < count {
-        return false;
-    }
-    let mut i = count;
-    while i < MAX_BACKPOINTERS {
-        let slot = x.items[i];
-        if tables::elements::free_backpointer(slot) {
-            i += 1;
-        } else {
-            return false;
-        }
-    }
-    true
-}
-
-pub fn records_shaped(x: Records) -> bool
-    ensures { result ≡ shaped_records x }
-{
-    let count = x.count;
-    if MAX_RECORDS < count {
-        return false;
-    }
-    let mut i = count;
-    while i < MAX_RECORDS {
-        let slot = x.items[i];
-        if tables::elements::free_record(slot) {
-            i += 1;
-        } else {
-            return false;
-        }
-    }
-    true
-}
-
-pub fn queue_shaped(x: Queue) -> bool
-    ensures { result ≡ shaped_queue x }
-{
-    let count = x.count;
-    if MAX_MESSAGES < count {
-        return false;
-    }
-    let mut i = count;
-    while i < MAX_MESSAGES {
-        let slot = x.items[i];
-        if tables::elements::free_message(slot) {
-            i += 1;
-        } else {
-            return false;
-        }
-    }
-    true
-}
-
-pub fn partition_shaped(p: Partition) -> bool
-    ensures { result ≡ shaped_partition p }
-{
-    let entries = p.entries;
-    if entries_shaped(entries) {} else {
-        return false;
-    }
-    let backpointers = p.backpointers;
-    if backpointers_shaped(backpointers) {} else {
-        return false;
-    }
-    let records = p.records;
-    records_shaped(records)
+    is_shaped(&p.entries) && is_shaped(&p.backpointers) && is_shaped(&p.records)
 }
 
 // Whether a partition is one that is not there: nothing is in it, and it is not up.
-pub fn is_absent(p: Partition) -> bool
-    ensures { result ≡ absent p }
+pub fn is_absent(p: &Partition) -> bool
+    ensures { result ≡ absent p.now }
 {
-    let up = p.up;
-    let entries = p.entries;
-    let backpointers = p.backpointers;
-    let records = p.records;
-    !up & ((p.last == 0)
-        & ((entries.count == 0) & ((backpointers.count == 0) & (records.count == 0))))
+    !p.up
+        && p.last == 0
+        && p.entries.count == 0
+        && p.backpointers.count == 0
+        && p.records.count == 0
 }

@@ -9,158 +9,116 @@ ghost use Rattle.protocol.specs.Events.{advancing, delivering, bare};
 ghost use Rattle.protocol.specs.Settle.{advances, candidates, deliveries, first_accepted};
 ghost use Rattle.tables.specs.View.{view};
 ghost use Rattle.answers.specs.Called.{Ready};
-ghost use Rattle.steps.specs.Stepped.{LogOf, advances_of, deliveries_from, stayed, step_of, tried};
+ghost use Rattle.steps.specs.Stepped.{advances_of, deliveries_from, step_of, tried};
 
-use answers::{Answered, queues};
+use answers::Answered;
+use answers::here::Here;
 use protocol::Reply;
-use tables::{Records, Tables};
+use tables::Tables;
 
-// What a settling step gives: whether one was accepted, its reply, and the tables after it.
+// What an accepted step gives: its reply, and the tables after it.
 #[derive(Clone, Copy)]
 pub struct Step {
-    pub moved: bool,
     pub reply: Reply,
     pub tables: Tables,
 }
 
-fn stay(t: Tables) -> Step
-    ensures { result ≡ stayed t }
-{
-    let reply = Reply::None;
-    Step {
-        moved: false,
-        reply: reply,
-        tables: t,
-    }
-}
-
-fn tried(a: Answered) -> Step
+// What was tried, if it was accepted.
+fn tried(a: Answered) -> Option<Step>
     ensures { result ≡ tried a }
 {
-    let answer = a.answer;
-    let tables = a.tables;
-    let refusal = answer.refusal;
-    if numbers::accepted(refusal) {} else {
-        return stay(tables);
+    if !numbers::accepted(a.answer.refusal) {
+        return None;
     }
-    let reply = answer.reply;
-    Step {
-        moved: true,
-        reply: reply,
-        tables: tables,
-    }
+    Some(Step {
+        reply: a.answer.reply,
+        tables: a.tables,
+    })
 }
 
-fn try_advance(t: Tables, p: usize, number: u32) -> Step
-    requires { Ready t × (p < t.count) × (p < max_partitions) }
-    ensures { result ≡ step_of t (first_accepted bare (view t) (advancing p number ∷ [])) }
+fn try_advance(here: Here, number: u32) -> Option<Step>
+    ensures { let t = here.entry.tables.now in result ≡ step_of t (first_accepted bare (view t) (advancing here.entry.at number ∷ [])) }
 {
-    let a = advances::advance_there(t, p, number);
-    tried(a)
+    tried(advances::advance_there(here, number))
 }
 
-// Of the records l of partition p, in their order.
-fn first_advance_among(t: Tables, p: usize, l: Records) -> Step
-    requires { Ready t × LogOf t p l }
-    ensures { result ≡ step_of t (first_accepted bare (view t) (advances_of (view t) p)) }
+// Of the records of the partition that is here, in their order.
+fn first_advance_of(here: Here) -> Option<Step>
+    ensures { let t = here.entry.tables.now in result ≡ step_of t (first_accepted bare (view t) (advances_of (view t) here.entry.at)) }
 {
-    let mut i: usize = 0;
-    while i < l.count {
-        let r = l.items[i];
-        let s = try_advance(t, p, r.number);
-        let moved = s.moved;
-        if moved {
-            return s;
+    let log = here.own().records.listed();
+    for r in log {
+        let step = try_advance(here, r.number);
+        if step.is_some() {
+            return step;
         }
-        i += 1;
     }
-    stay(t)
+    None
 }
 
-fn first_advance_of(t: Tables, p: usize) -> Step
-    requires { Ready t × (p < t.count) × (p < max_partitions) }
-    ensures { result ≡ step_of t (first_accepted bare (view t) (advances_of (view t) p)) }
-{
-    let x = t.partitions[p];
-    let records = x.records;
-    first_advance_among(t, p, records)
-}
-
-fn first_advance(t: Tables) -> Step
+// A loop of its own, as first_delivery has: one function of both would take closures whose clauses are longer than the loops.
+fn first_advance(t: Tables) -> Option<Step>
     requires { Ready t }
     ensures { result ≡ step_of t (first_accepted bare (view t) (advances (view t))) }
 {
-    let mut p: usize = 0;
-    while p < t.count {
-        let s = first_advance_of(t, p);
-        let moved = s.moved;
-        if moved {
-            return s;
+    for p in 0..t.count {
+        let here = Here { tables: &t, at: p };
+        let step = first_advance_of(here);
+        if step.is_some() {
+            return step;
         }
-        p += 1;
     }
-    stay(t)
+    None
 }
 
-// Whether a message from s waits, and r is up to receive it. Most do not: so nothing is tried that would be refused.
-fn awaits(t: Tables, s: usize, r: usize) -> bool
-    requires { Ready t × (s < t.count) × (s < max_partitions) × (r < t.count) × (r < max_partitions) }
-    ensures { result ≡ accepted (deliver (view t) s r) }
+// Whether a message from s waits, and the receiver is up. Most do not: so nothing is tried that would be refused.
+fn awaits(to: Here, s: usize) -> bool
+    requires { (s < to.tables.now.count) × (s < max_partitions) }
+    ensures { result ≡ accepted (deliver (view to.entry.tables.now) s to.entry.at) }
 {
-    let y = t.partitions[r];
-    if y.up {} else {
-        return false;
-    }
-    let q = queues::queue(t, s, r);
-    q.count != 0
+    to.own().up && to.queue_from(s).count != 0
 }
 
-fn take_delivery(t: Tables, s: usize, r: usize) -> Step
-    requires { Ready t × (s < t.count) × (s < max_partitions) × (r < t.count) × (r < max_partitions) }
-    ensures { result ≡ step_of t (first_accepted bare (view t) (delivering s r ∷ [])) }
+fn take_delivery(to: Here, s: usize) -> Option<Step>
+    requires { (s < to.tables.now.count) × (s < max_partitions) }
+    ensures { let t = to.entry.tables.now in result ≡ step_of t (first_accepted bare (view t) (delivering s to.entry.at ∷ [])) }
 {
-    let a = deliveries::deliver_there(t, s, r);
-    tried(a)
+    tried(deliveries::deliver_there(to, s))
 }
 
-fn first_delivery_from(t: Tables, s: usize) -> Step
+fn first_delivery_from(t: Tables, s: usize) -> Option<Step>
     requires { Ready t × (s < t.count) × (s < max_partitions) }
     ensures { result ≡ step_of t (first_accepted bare (view t) (deliveries_from (view t) s)) }
 {
-    let mut r: usize = 0;
-    while r < t.count {
-        if awaits(t, s, r) {
-            return take_delivery(t, s, r);
+    for r in 0..t.count {
+        let to = Here { tables: &t, at: r };
+        if awaits(to, s) {
+            return take_delivery(to, s);
         }
-        r += 1;
     }
-    stay(t)
+    None
 }
 
-fn first_delivery(t: Tables) -> Step
+fn first_delivery(t: Tables) -> Option<Step>
     requires { Ready t }
     ensures { result ≡ step_of t (first_accepted bare (view t) (deliveries (view t))) }
 {
-    let mut s: usize = 0;
-    while s < t.count {
-        let a = first_delivery_from(t, s);
-        let moved = a.moved;
-        if moved {
-            return a;
+    for s in 0..t.count {
+        let step = first_delivery_from(t, s);
+        if step.is_some() {
+            return step;
         }
-        s += 1;
     }
-    stay(t)
+    None
 }
 
-pub fn first_step(t: Tables) -> Step
+pub fn first_step(t: Tables) -> Option<Step>
     requires { Ready t }
     ensures { result ≡ step_of t (first_accepted bare (view t) (candidates (view t))) }
 {
-    let a = first_advance(t);
-    let moved = a.moved;
-    if moved {
-        return a;
+    let step = first_advance(t);
+    if step.is_some() {
+        return step;
     }
     first_delivery(t)
 }

@@ -1,27 +1,20 @@
 -- The loop over a block: at each place, what is left to be answered, and what stands in the room.
-use Rattle.std.proofs.Common.{◌≡◌, ℕ, ◌+◌, ◌-◌, ◌*◌, ◌<◌, ◌≤◌, Bool, true, false, eqb, List, [], ◌∷◌, ◌++◌, length, get_or, drop, set, sym, refl, ap, ◌∙◌, append_assoc, append-nil, add-one, arith, drop_of_length-le, drop-cons, eq-eqb, ne_eqb}
-use Rattle.rehearsal.specs.Answers.{numbers_of}
+use Rattle.std.proofs.Common.{◌≡◌, ℕ, ◌+◌, ◌*◌, ◌<◌, ◌≤◌, true, false, eqb, List, [], ◌∷◌, ◌++◌, length, get_or, drop, sym, refl, ap, ◌∙◌, append_assoc, append-nil, add-one, arith, drop_of_length-le, drop-cons, eq-eqb, ne_eqb}
 use Rattle.rehearsal.specs.Line.{command_of}
-use Rattle.sessions.specs.Session.{responded}
+use Rattle.sessions.specs.Session.{responded, responded_to}
+use Rattle.std.specs.Prelude.{Bool, IfSome, None, Option, Some}
 use Rattle.rehearsal.specs.Text.{Adds, line_end, line_text}
-use Rattle.rehearsal.specs.declared.Command.{Command}
-use Rattle.rehearsal.specs.declared.Numbers.{Numbers}
+use Rattle.rehearsal.specs.Answers.{numbers_of}
 use Rattle.sessions.specs.declared.Response.{Response}
+use Rattle.rehearsal.specs.declared.Command.{Command}
+use Rattle.rehearsal.specs.Answers.{Numbers}
 use Rattle.sessions.specs.declared.Session.{Session}
-use Rattle.deeds.specs.Deeds.{Does}
+use Rattle.deeds.specs.Deeds.{Does, left_by, numbers_said}
 use Rattle.deeds.specs.declared.Deed.{Deed}
-use Rattle.deeds.specs.declared.Way.TheVariants.{Changes}
-use Rattle.answers.specs.Change.{Sends, Takes, from_other, taken_if, taken_queues, to_other}
-use Rattle.protocol.specs.Bounds.{max_messages, max_partitions}
-use Rattle.tables.specs.View.{messages_of, no_queue, pack_queue, partition_at, queue_at}
-use Rattle.tables.specs.declared.Queue.{Queue}
 use Rattle.tables.specs.declared.Tables.{Tables}
 use Rattle.texts.proofs.Buffers.{adds-length, adds-nothing, adds_on}
-use Rattle.feeding.specs.Feed.{Midway, Service, begun_with, fed, fed_byte, longest_answer, midway, next_line, said, said_byte}
+use Rattle.feeding.specs.Feed.{Midway, Service, answer, answered, begun_with, next_line, fed, fed_byte, longest_answer, midway, said, said_byte}
 use Rattle.feeding.specs.Sessions.{sessions}
-use Rattle.stream.specs.Keeping.{line_of, midway_of}
-use Rattle.stream.specs.declared.blocks.Kept.{Kept}
-use Rattle.stream.specs.declared.blocks.Line.{Line}
 
 -- ---- a block from a place on
 module _ {S : Type 0} (v : Service S) (block : List ℕ) (i : ℕ) where
@@ -43,124 +36,91 @@ module _ {S : Type 0} (v : Service S) (block : List ℕ) (i : ℕ) where
     unfolding said
     said-end = rw (drop_of_length-le block h)
 
--- ---- `feed`
+-- ---- `feed`: the first i bytes are answered, and x is what they leave
 module _ (x₀ : Midway Session) (block before : List ℕ) where
-  pub record Feeding (l : List ℕ) (n : ℕ) (s : Session) (out : List ℕ) (place i : ℕ) : Type 0 where
-    pub inside : i ≤ length block
+  pub record Feeding (x : Midway Session) (out : List ℕ) (place i : ℕ) : Type 0 where
     pub room : length block * longest_answer ≤ length before
     pub short : place ≤ i * longest_answer
     pub text : List ℕ
     pub added : Adds text before 0 out place
-    pub kept : fed sessions x₀ block ≡ fed sessions (midway l n s) (drop i block)
-    pub rest : said sessions x₀ block ≡ text ++ said sessions (midway l n s) (drop i block)
+    pub kept : fed sessions x₀ block ≡ fed sessions x (drop i block)
+    pub rest : said sessions x₀ block ≡ text ++ said sessions x (drop i block)
 
-  module _ (l : List ℕ) (n : ℕ) (s : Session) (out : List ℕ) (place i : ℕ) (f : Feeding l n s out place i) where
-    fits : 0 + length f.text ≤ length before
-    fits = omega (arith, f.inside, f.room, f.short, f.added.place)
+  module _ (x : Midway Session) (out : List ℕ) (place i : ℕ) (f : Feeding x out place i) where
+    module _ (inside : i ≤ length block) where
+      fits : 0 + length f.text ≤ length before
+      fits = omega (arith, f.room, f.short, f.added.place)
 
-    pub feed-same : length out ≡ length before
-    feed-same = adds-length f.text before 0 out place fits f.added
+      pub feed-same : length out ≡ length before
+      feed-same = adds-length f.text before 0 out place fits f.added
 
-    pub feed-room : i < length block → place + longest_answer ≤ length out
-    feed-room h = omega (arith, f.room, f.short, feed-same)
+    module _ (h : i < length block) where
+      pub feed-room : place + longest_answer ≤ length out
+      feed-room = let e = feed-same (omega arith) in omega (arith, f.room, f.short)
 
-    -- a byte that is answered by t, and leaves l', n' and s'
-    step : i < length block → (t : List ℕ) → t ≡ said_byte sessions (midway l n s) (get_or block i 0) → (l' : List ℕ) (n' : ℕ) (s' : Session) → midway l' n' s' ≡ fed_byte sessions (midway l n s) (get_or block i 0) → (a : List ℕ) (p : ℕ) → Adds t out place a p → p ≤ place + longest_answer → Feeding l' n' s' a p (i + 1)
-    step h t e l' n' s' g a p r q =
-        record {
-          inside = omega arith;
-          room = f.room;
-          short = omega (arith, f.short);
-          text = f.text ++ t;
-          added = adds_on f.text before 0 out place t a p fits f.added r;
-          kept = f.kept ∙ rw g (fed-on sessions block i h (midway l n s));
-          rest =
-              f.rest
-              ∙ ap (λ (k : List ℕ). f.text ++ k) (rw (e, g) (said-on sessions block i h (midway l n s)))
-              ∙ sym (append_assoc f.text t (said sessions (midway l' n' s') (drop (i + 1) block)));
-        }
+      -- a byte that is answered by t, and leaves y
+      step : (t : List ℕ) → t ≡ said_byte sessions x (get_or block i 0) → (y : Midway Session) → y ≡ fed_byte sessions x (get_or block i 0) → (a : List ℕ) (p : ℕ)
+          → Adds t out place a p → p ≤ place + longest_answer → Feeding y a p (i + 1)
+      step t e y g a p r q =
+          record {
+            room = f.room;
+            short = omega (arith, f.short);
+            text = f.text ++ t;
+            added = adds_on f.text before 0 out place t a p (fits (omega arith)) f.added r;
+            kept = f.kept ∙ rw g (fed-on sessions block i h x);
+            rest =
+                f.rest
+                ∙ ap (λ (k : List ℕ). f.text ++ k) (rw (e, g) (said-on sessions block i h x))
+                ∙ sym (append_assoc f.text t (said sessions y (drop (i + 1) block)));
+          }
 
-    pub feed-line : i < length block → get_or block i 0 ≡ line_end → (n' : ℕ) → n' ≡ next_line n → (c : Command) → c ≡ command_of l → (r : Response) → r ≡ responded s c → (a : List ℕ) (p : ℕ) → Adds (line_text (n' ∷ numbers_of r.numbers)) out place a p → p ≤ place + longest_answer → (l' : List ℕ) → l' ≡ [] → (s' : Session) → s' ≡ r.session → Feeding l' n' s' a p (i + 1)
-    feed-line h b n' en c ec r er a p w q l' el s' es =
-        let e : eqb (get_or block i 0) line_end ≡ true = eq-eqb _ _ b in
-        step h (line_text (n' ∷ numbers_of r.numbers)) (rw (e, en, er, ec)) l' n' s' (rw (e, en, el, es, er, ec)) a p w q
+      pub feed-line : get_or block i 0 ≡ line_end → (y : Midway Session) → y ≡ answered sessions x → (a : List ℕ) (p : ℕ)
+          → Adds (answer sessions x) out place a p → p ≤ place + longest_answer → Feeding y a p (i + 1)
+      feed-line b y g a p r q =
+          let e : eqb (get_or block i 0) line_end ≡ true = eq-eqb _ _ b in
+          step (answer sessions x) (rw e) y (g ∙ rw e) a p r q
 
-    -- what the command leaves was stored, and the tables are u
-    pub feed-stored : i < length block → get_or block i 0 ≡ line_end → (n' : ℕ) → n' ≡ next_line n → (c : Command) → c ≡ command_of l
-        → (ns : Numbers) (t : Tables) → record { numbers = ns; session = record { «open» = s.«open»; tables = t } } ≡ responded s c
-        → (a : List ℕ) (p : ℕ) → Adds (line_text (n' ∷ numbers_of ns)) out place a p → p ≤ place + longest_answer → (l' : List ℕ) → l' ≡ [] → (u : Tables) → u ≡ t
-        → Feeding l' n' (record { «open» = s.«open»; tables = u }) a p (i + 1)
-    feed-stored h b n' en c ec ns t er a p w q l' el u eu =
-        let r : Response = record { numbers = ns; session = record { «open» = s.«open»; tables = t } } in
-        feed-line h b n' en c ec r er a p w q l' el (record { «open» = s.«open»; tables = u }) (ap (λ (j : Tables). record { «open» = s.«open»; tables = j }) eu)
+      pub feed-byte : (get_or block i 0 ≡ line_end → ⊥) → (l : List ℕ) → l ≡ begun_with x.line (get_or block i 0) → Feeding (midway l x.lines x.service) out place (i + 1)
+      feed-byte b l g =
+          let e : eqb (get_or block i 0) line_end ≡ false = ne_eqb _ _ b in
+          step [] (rw e) (midway l x.lines x.service) (rw (e, g)) out place (adds-nothing out place) (omega arith)
 
-    pub feed-byte : i < length block → (get_or block i 0 ≡ line_end → ⊥) → (l' : List ℕ) → l' ≡ begun_with l (get_or block i 0) → Feeding l' n s out place (i + 1)
-    feed-byte h b l' el =
-        let e : eqb (get_or block i 0) line_end ≡ false = ne_eqb _ _ b in
-        step h [] (rw e) l' n s (rw (e, el)) out place (adds-nothing out place) (omega arith)
+    module _ (h : length block ≤ i) where
+      pub feed-kept : x ≡ fed sessions x₀ block
+      feed-kept = sym (f.kept ∙ fed-end sessions block i h x)
 
-    pub feed-kept : length block ≤ i → midway l n s ≡ fed sessions x₀ block
-    feed-kept h = sym (f.kept ∙ fed-end sessions block i h (midway l n s))
+      pub feed-said : Adds (said sessions x₀ block) before 0 out place
+      feed-said =
+          let e : said sessions x₀ block ≡ f.text = f.rest ∙ rw (said-end sessions block i h x) (append-nil f.text) in
+          rw e f.added
 
-    pub feed-said : length block ≤ i → Adds (said sessions x₀ block) before 0 out place
-    feed-said h =
-        let e : said sessions x₀ block ≡ f.text = f.rest ∙ rw (said-end sessions block i h (midway l n s)) (append-nil f.text) in
-        rw e f.added
-
-pub feed-start : (l : List ℕ) (n : ℕ) (s : Session) (block out : List ℕ) → length block * longest_answer ≤ length out → Feeding (midway l n s) block out l n s out 0 0
-feed-start l n s block out h =
-    record {
-      inside = omega arith;
-      room = h;
-      short = omega arith;
-      text = [];
-      added = adds-nothing out 0;
-      kept = refl;
-      rest = refl;
-    }
-
-pub one_less : (n i : ℕ) → i < n → n - (i + 1) < n - i
-one_less n i h = omega arith
+pub feed-start : (x : Midway Session) (block out : List ℕ) → length block * longest_answer ≤ length out → Feeding x block out x out 0 0
+feed-start x block out h =
+    record { room = h; short = omega arith; text = []; added = adds-nothing out 0; kept = refl; rest = refl }
 
 pub ruleset feeding = (feed-start, feed-same, feed-room, feed-line, feed-byte, feed-kept, feed-said)
 
--- ---- what is taken out of the tables for a command: the places a and b are those that it names
+-- ---- a line that is answered: c is its command, and r what the session answers
+module _ (x₀ : Midway Session) (block before : List ℕ) (x : Midway Session) (out : List ℕ) (place i : ℕ) (f : Feeding x₀ block before x out place i)
+    (h : i < length block) (b : get_or block i 0 ≡ line_end) (n : ℕ) (en : n ≡ next_line x.lines) (c : Command) (ec : c ≡ command_of x.line)
+    (l : List ℕ) (el : l ≡ []) (a : List ℕ) (p : ℕ) where
+  pub feed-response : (r : Response) → r ≡ responded x.service c → Adds (line_text (n ∷ numbers_of r.numbers)) out place a p → p ≤ place + longest_answer
+      → Feeding x₀ block before (midway l n r.session) a p (i + 1)
+  feed-response r er w q = feed-line x₀ block before x out place i f h b (midway l n r.session) (rw (en, el, er, ec)) a p (rw (en, er, ec) at w) q
 
-module _ (t : Tables) (a p b q : ℕ) (e : a ≡ p) (f : b ≡ q) where
-  pub partition-named : partition_at t a ≡ partition_at t p
-  partition-named = rw e refl
+  -- a deed d is carried out, and leaves the tables u
+  pub feed-deed : (o : Bool) (t : Tables) → x.service ≡ record { «open» = o; tables = t } → (d : Deed)
+      → (o ≡ true) × Does d t (responded (record { «open» = o; tables = t }) c) → (ns : Numbers) → ns ≡ numbers_said d → (u : Tables) → u ≡ left_by d t
+      → Adds (line_text (n ∷ numbers_of ns)) out place a p → p ≤ place + longest_answer
+      → Feeding x₀ block before (midway l n (record { «open» = o; tables = u })) a p (i + 1)
+  feed-deed o t es d g ns e u k w q =
+      let r : Response = record { numbers = ns; session = record { «open» = o; tables = u } } in
+      feed-response r
+      ((λ j. record { numbers = e j; session = record { «open» = g.0 j; tables = k j } }) ∙ g.1.gives ∙ ap (λ (y : Session). responded y c) (sym es)) w q
 
-  pub queue-named : queue_at t (a * max_partitions + b) ≡ queue_at t (p * max_partitions + q)
-  queue-named = rw (e, f) refl
-
--- ---- the session that is asked, and the one that is kept
-
-module _ (r : Response) (x : Session) («open» : Bool) (t : Tables) (e : x ≡ record { «open» = «open»; tables = t }) where
-  pub session-asked : (c : Command) → r ≡ responded x c → r ≡ responded (record { «open» = «open»; tables = t }) c
-  session-asked c h = h ∙ rw e refl
-
-module _ (k : Kept) (l : Line) (n : ℕ) (x y : Session) where
-  pub kept-midway : k ≡ record { line = l; lines = n; session = x } → x ≡ y → midway_of k ≡ midway (line_of l) n y
-  kept-midway e f = rw (e, f) refl
-
--- ---- where a change is stored
-
-module _ (d : Deed) (b : Bool) (t : Tables) (x : Response) (e : Does d b t x) (k : d.way ≡ Changes) (q : Queue) (f : q ≡ get_or t.queues (from_other d.change) no_queue) where
-  pub from-packed : pack_queue (messages_of q) ≡ q
-  from-packed = rw f (e.queued k).packed
-
-  pub from-most : q.count ≤ max_messages
-  from-most = rw f (e.queued k).most
-
-  pub from-takes : Takes d.change.takes q
-  from-takes = rw f (e.queued k).takes
-
-  module _ (r : Queue) (h : r ≡ taken_if d.change.takes q) (g : Queue) (v : g ≡ get_or (set t.queues (from_other d.change) r) (to_other d.change) no_queue) where
-    taken : g ≡ get_or (taken_queues t d.change) (to_other d.change) no_queue
-    taken = v ∙ rw (h, f) refl
-
-    pub to-packed : pack_queue (messages_of g) ≡ g
-    to-packed = rw taken (e.queued k).after
-
-    pub to-sends : Sends d.change.sends g
-    to-sends = rw taken (e.queued k).sends
+-- ---- `deed_in`
+pub deed-responded : (b : Bool) (t : Tables) (c : Command) (o : Option Deed) → b ≡ true → IfSome o (λ d. Does d t (responded_to c.verb c t))
+    → IfSome o (λ d. (b ≡ true) × Does d t (responded (record { «open» = b; tables = t }) c))
+unfolding responded
+deed-responded b t c None e h = h
+deed-responded b t c (Some d) e h = (e, rw e h)

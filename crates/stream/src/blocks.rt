@@ -1,16 +1,19 @@
 // The input in blocks of any size: bytes are gathered to lines, and each line is answered where it ends.
-ghost use Rattle.std.specs.Prelude.{◌≡◌, ◌+◌, ◌*◌, ◌<◌, ◌≤◌, [], ◌∷◌, length, take};
+ghost use Rattle.std.specs.Prelude.{IfSome, true, ◌≡◌, ◌+◌, ◌*◌, ◌<◌, ◌≤◌, [], ◌∷◌, length};
 ghost use Rattle.lists.specs.Lists.{is_some};
 ghost use Rattle.rehearsal.specs.Answers.{numbers_of};
 ghost use Rattle.rehearsal.specs.Line.{command_of};
 ghost use Rattle.rehearsal.specs.Text.{Adds, line_text};
+ghost use Rattle.sessions.specs.Session.{responded};
+ghost use Rattle.deeds.specs.Deeds.{Does, Fits, left_by};
 ghost use Rattle.feeding.specs.Feed.{begun_with, fed, longest_answer, next_line, said};
 ghost use Rattle.feeding.specs.Sessions.{at_start, sessions};
 ghost use Rattle.stream.specs.Keeping.{line_of, midway_of};
 
-use answers::changes::{sent_if, taken_if};
-use deeds::Way;
-use losses::{partitions_after, queues_after};
+use answers::changes::{Change, sent_if, taken_if};
+use deeds::Deed;
+use lists::Bounded;
+use losses::{Loss, partitions_after, queues_after};
 use rehearsal::{Command, LF, LINE_BYTES, Numbers};
 use sessions::Session;
 use tables::{MAX_PARTITIONS, Tables};
@@ -20,11 +23,7 @@ use texts::text;
 const LINE_ROOM: usize = LINE_BYTES + 1;
 
 // A line that has begun.
-#[derive(Clone, Copy)]
-pub struct Line {
-    pub len: usize,
-    pub bytes: [u8; LINE_ROOM],
-}
+pub type Line = Bounded<u8, LINE_ROOM>;
 
 // What is kept between two blocks: the line that has begun, how many lines were answered, and the session.
 #[derive(Clone, Copy)]
@@ -34,49 +33,33 @@ pub struct Kept {
     pub session: Session,
 }
 
-// What a block leaves: what is kept, and the place behind its answers.
-#[derive(Clone, Copy)]
-pub struct Fed {
-    pub kept: Kept,
-    pub place: usize,
-}
-
 fn no_bytes() -> Line
     ensures { line_of result ≡ [] }
 {
-    Line {
-        len: 0,
-        bytes: [0; LINE_ROOM],
+    Bounded {
+        count: 0,
+        items: [0; LINE_ROOM],
     }
 }
 
 fn with_byte(l: Line, b: u8) -> Line
     ensures { line_of result ≡ begun_with (line_of l) b }
 {
-    let at = l.len;
-    if at < LINE_ROOM {} else {
+    if LINE_ROOM <= l.count {
         return l;
     }
-    let mut more = l;
-    more.bytes[at] = b;
-    more.len = at + 1;
-    more
-}
-
-fn command_within(bytes: &[u8], len: usize) -> Command
-    ensures { result ≡ command_of (take len bytes.now) }
-{
-    if len <= bytes.len() {} else {
-        return lines::command_of(bytes);
+    let mut items = l.items;
+    items[l.count] = b;
+    Bounded {
+        count: l.count + 1,
+        items,
     }
-    lines::command_of(&bytes[..len])
 }
 
 fn command_in(l: Line) -> Command
     ensures { result ≡ command_of (line_of l) }
 {
-    let bytes = l.bytes;
-    command_within(&bytes, l.len)
+    lines::command_of(l.listed())
 }
 
 fn next_line(lines: u64) -> u64
@@ -94,105 +77,110 @@ fn put_answer(out: &mut [u8], at: usize, lines: u64, x: Numbers) -> usize
     text::put_line(out, at, lines, x)
 }
 
-fn session_of(running: bool, tables: Tables) -> Session
-    ensures { result ≡ record { «open» = running; tables = tables } }
-{
-    Session {
-        open: running,
-        tables: tables,
-    }
-}
-
-fn kept_of(line: Line, lines: u64, session: Session) -> Kept
-    ensures { result ≡ record { line = line; lines = lines; session = session } }
-{
-    Kept {
-        line,
-        lines,
-        session,
-    }
-}
-
 pub fn start() -> Kept
     ensures { midway_of result ≡ at_start }
 {
-    let line = no_bytes();
-    let session = sessions::closed();
-    kept_of(line, 0, session)
+    Kept {
+        line: no_bytes(),
+        lines: 0,
+        session: sessions::closed(),
+    }
 }
 
-pub fn has_begun(k: Kept) -> bool
-    ensures { result ≡ is_some (line_of k.line) }
+pub fn has_begun(k: &Kept) -> bool
+    ensures { result ≡ is_some (line_of k.now.line) }
 {
-    0 < k.line.len
+    !k.line.listed().is_empty()
 }
 
-// Every byte of a block, in order; the answers stand in the lent room from its start. A change of one partition, and what a cut or
-// a crash leaves, is stored here, where the tables are: to hand them on and back would take longer than the command.
-pub fn feed(k: Kept, block: &[u8], out: &mut [u8]) -> Fed
+// A change of one partition, stored in its place.
+fn store(t: &mut Tables, change: Change)
+    requires { Fits (Deed.Changes change) t.old }
+    ensures { t.new ≡ left_by (Deed.Changes change) t.old }
+{
+    t.partitions[change.at] = change.partition;
+    let from = change.other * MAX_PARTITIONS + change.at;
+    let rest = taken_if(change.takes, t.queues[from]);
+    t.queues[from] = rest;
+    let to = change.at * MAX_PARTITIONS + change.other;
+    let more = sent_if(change.sends, t.queues[to]);
+    t.queues[to] = more;
+}
+
+// What a cut or a crash loses, taken out.
+fn lose(t: &mut Tables, loss: Loss)
+    requires { Fits (Deed.Loses loss) t.old }
+    ensures { t.new ≡ left_by (Deed.Loses loss) t.old }
+{
+    let partitions = partitions_after(loss, *t, t.partitions);
+    t.partitions = partitions;
+    let queues = queues_after(loss, t.queues);
+    t.queues = queues;
+}
+
+fn carry_out(t: &mut Tables, deed: Deed)
+    requires { Fits deed t.old }
+    ensures { t.new ≡ left_by deed t.old }
+{
+    match deed {
+        Deed::Changes(change) => store(t, change),
+        Deed::Loses(loss) => lose(t, loss),
+    }
+}
+
+// What a command does that is done where the tables stand, once they are open.
+fn deed_in(running: bool, t: Tables, c: Command) -> Option<Deed>
+    ensures { IfSome result (λ d. (running ≡ true) × Does d t (responded (record { «open» = running; tables = t }) c)) }
+{
+    if !running {
+        return None;
+    }
+    deeds::deed_of(t, c)
+}
+
+// Every byte of a block, in order; the answers stand in the lent room from its start, and end at the place that is given back. The
+// tables stay a variable of this function: to hand them on from behind a reference, or back, would take longer than the command.
+pub fn feed(k: &mut Kept, block: &[u8], out: &mut [u8]) -> usize
     requires { length block.now * longest_answer ≤ length out.old }
-    ensures kept_value { midway_of result.kept ≡ fed sessions (midway_of k) block.now }
-    ensures adds { Adds (said sessions (midway_of k) block.now) out.old 0 out.new result.place }
+    ensures kept_value { midway_of k.new ≡ fed sessions (midway_of k.old) block.now }
+    ensures adds { Adds (said sessions (midway_of k.old) block.now) out.old 0 out.new result }
 {
     let mut line = k.line;
     let mut lines = k.lines;
-    let began = k.session;
-    let mut running = began.open;
-    let mut tables = began.tables;
-    let mut place: usize = 0;
-    let mut i: usize = 0;
-    while i < block.len() {
-        let b = block[i];
-        i += 1;
-        if b == LF {
-            lines = next_line(lines);
-            let command = command_in(line);
-            line = no_bytes();
-            let first = deeds::first_place(command);
-            let second = deeds::second_place(command);
-            let own = tables.partitions[first];
-            let receiver = tables.partitions[second];
-            let waiting = tables.queues[first * MAX_PARTITIONS + second];
-            let deed = deeds::deed_of(running, tables, own, receiver, waiting, command);
-            let way = deed.way;
-            match way {
-                Way::Changes => {
-                    let change = deed.change;
-                    let at = change.at;
-                    let other = change.other;
-                    let x = change.partition;
-                    tables.partitions[at] = x;
-                    let from = tables.queues[other * MAX_PARTITIONS + at];
-                    let rest = taken_if(change.takes, from);
-                    tables.queues[other * MAX_PARTITIONS + at] = rest;
-                    let to = tables.queues[at * MAX_PARTITIONS + other];
-                    let more = sent_if(change.sends, to, change.message);
-                    tables.queues[at * MAX_PARTITIONS + other] = more;
-                    place = put_answer(out, place, lines, deed.numbers);
-                }
-                Way::Loses(loss) => {
-                    let before = tables.partitions;
-                    let partitions = partitions_after(loss, tables, before);
-                    tables.partitions = partitions;
-                    let waited = tables.queues;
-                    let queues = queues_after(loss, waited);
-                    tables.queues = queues;
-                    place = put_answer(out, place, lines, deed.numbers);
-                }
-                Way::Unknown => {
-                    let session = session_of(running, tables);
-                    let response = sessions::respond(session, command);
-                    place = put_answer(out, place, lines, response.numbers);
-                    let next = response.session;
-                    running = next.open;
-                    tables = next.tables;
-                }
-            }
+    let mut running = k.session.open;
+    let mut tables = k.session.tables;
+    let mut place = 0;
+    for b in block {
+        if *b != LF {
+            line = with_byte(line, *b);
+            continue;
+        }
+        lines = next_line(lines);
+        let command = command_in(line);
+        line = no_bytes();
+        if let Some(deed) = deed_in(running, tables, command) {
+            carry_out(&mut tables, deed);
+            place = put_answer(out, place, lines, deeds::numbers_said(deed));
         } else {
-            line = with_byte(line, b);
+            let response = sessions::respond(
+                Session {
+                    open: running,
+                    tables,
+                },
+                command,
+            );
+            running = response.session.open;
+            tables = response.session.tables;
+            place = put_answer(out, place, lines, response.numbers);
         }
     }
-    let session = session_of(running, tables);
-    let kept = kept_of(line, lines, session);
-    Fed { kept, place }
+    *k = Kept {
+        line,
+        lines,
+        session: Session {
+            open: running,
+            tables,
+        },
+    };
+    place
 }

@@ -30,10 +30,9 @@ fn empty_room() -> [u8; ROOM]
 // What a turn leaves: so many bytes were read, their answers end at this place, and whether they could be written.
 #[derive(Clone, Copy)]
 struct Turn {
-    pub read: usize,
-    pub place: usize,
-    pub written: bool,
-    pub kept: Kept,
+    read: usize,
+    place: usize,
+    written: bool,
 }
 
 // How many bytes were read into the block: none where the read failed.
@@ -52,45 +51,33 @@ fn write_answers<W: Write>(to: &mut W, answers: &[u8]) -> bool {
 fn take_turn<R: Read, W: Write>(
     from: &mut R,
     to: &mut W,
-    k: Kept,
+    k: &mut Kept,
     block: &mut [u8],
     out: &mut [u8],
 ) -> Turn
     requires { length block.old * longest_answer ≤ length out.old }
-    ensures kept_value { midway_of result.kept ≡ fed sessions (midway_of k) (take result.read block.new) }
-    ensures adds { Adds (said sessions (midway_of k) (take result.read block.new)) out.old 0 out.new result.place }
+    ensures kept_value { midway_of k.new ≡ fed sessions (midway_of k.old) (take result.read block.new) }
+    ensures adds { Adds (said sessions (midway_of k.old) (take result.read block.new)) out.old 0 out.new result.place }
 {
     let read = read_block(from, block);
-    let fed = blocks::feed(k, &block[..read], out);
-    let place = fed.place;
+    let place = blocks::feed(k, &block[..read], out);
     let written = write_answers(to, &out[..place]);
-    let kept = fed.kept;
     Turn {
         read,
         place,
         written,
-        kept,
     }
-}
-
-// The input has ended where nothing was read; and where the output is closed, there is no use in reading on.
-fn goes_on(read: usize, written: bool) -> bool {
-    if written {
-        return 0 < read;
-    }
-    false
 }
 
 // The last line may lack its LF: the answer to it, if there is one, ends at the place that is given back.
-fn finish<W: Write>(to: &mut W, k: Kept, out: &mut [u8]) -> usize
+fn finish<W: Write>(to: &mut W, k: &mut Kept, out: &mut [u8]) -> usize
     requires { longest_answer ≤ length out.old }
-    ensures { Adds (said_last sessions (midway_of k)) out.old 0 out.new result }
+    ensures { Adds (said_last sessions (midway_of k.old)) out.old 0 out.new result }
 {
-    if blocks::has_begun(k) {} else {
+    if !blocks::has_begun(k) {
         return 0;
     }
-    let fed = blocks::feed(k, &[LF], out);
-    let place = fed.place;
+    let place = blocks::feed(k, &[LF], out);
     write_answers(to, &out[..place]);
     place
 }
@@ -103,15 +90,12 @@ pub fn run<R: Read, W: Write>(from: &mut R, to: &mut W) {
     let mut room = empty_room();
     let out: &mut [u8] = &mut room;
     let mut kept = blocks::start();
-    let mut turns = u64::MAX;
-    while 0 < turns {
-        let turn = take_turn(from, to, kept, block, out);
-        kept = turn.kept;
-        if goes_on(turn.read, turn.written) {
-            turns -= 1;
-        } else {
-            turns = 0;
+    for _ in 0..u64::MAX {
+        let turn = take_turn(from, to, &mut kept, block, out);
+        // The input has ended where nothing was read; and where the output is closed, there is no use in reading on.
+        if turn.read == 0 || !turn.written {
+            break;
         }
     }
-    finish(to, kept, out);
+    finish(to, &mut kept, out);
 }

@@ -6,3 +6,4 @@ pub mod Written
 pub mod Opened
 pub mod Shapes
 pub mod Stored
+pub mod Slots

@@ -24,12 +24,8 @@ use Rattle.protocol.specs.declared.Record.{Record}
 use Rattle.protocol.specs.declared.Stage.{Stage}
 use Rattle.protocol.specs.declared.Stage.TheVariants.{Cleared, Held, Ready, Refused, Sent}
 use Rattle.tables.specs.Slots.{free_backpointer, free_entry, free_message, free_record, is_link, zero_backpointer, zero_entry, zero_message, zero_record}
-use Rattle.tables.specs.View.{Sized, SizedPartition, absent, backpointers_of, entries_of, messages_of, no_partition, no_queue, pack, pack_backpointers, pack_entries, pack_partition, pack_queue, pack_records, partition_at, queue_at, records_of, shaped, shaped_backpointers, shaped_entries, shaped_partition, shaped_queue, shaped_records, view, view_partition, zero_partition}
-use Rattle.tables.specs.declared.Backpointers.{Backpointers}
-use Rattle.tables.specs.declared.Entries.{Entries}
+use Rattle.tables.specs.View.{Sized, SizedPartition, absent, backpointers_of, entries_of, messages_of, no_partition, no_queue, pack, pack_backpointers, pack_entries, pack_partition, pack_queue, pack_records, partition_at, queue_at, records_of, shaped, shaped_backpointers, shaped_entries, shaped_partition, shaped_queue, shaped_records, view, view_partition, zero_partition, Entries, Backpointers, Records, Queue}
 use Rattle.tables.specs.declared.Partition.{Partition}
-use Rattle.tables.specs.declared.Queue.{Queue}
-use Rattle.tables.specs.declared.Records.{Records}
 use Rattle.tables.specs.declared.Tables.{Tables}
 use Rattle.lists.proofs.Alls.{all_past}
 use Rattle.lists.proofs.Fills.{pad-of, take-pad}

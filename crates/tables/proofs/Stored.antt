@@ -12,12 +12,8 @@ use Rattle.protocol.specs.declared.Entry.{Entry}
 use Rattle.protocol.specs.declared.Message.{Message}
 use Rattle.protocol.specs.declared.Record.{Record}
 use Rattle.tables.specs.Slots.{zero_backpointer, zero_entry, zero_message, zero_record}
-use Rattle.tables.specs.View.{Stored, backpointers_of, entries_of, messages_of, no_partition, pack, pack_backpointers, pack_entries, pack_partition, pack_queue, pack_records, partition_at, records_of, view, zero_partition}
-use Rattle.tables.specs.declared.Backpointers.{Backpointers}
-use Rattle.tables.specs.declared.Entries.{Entries}
+use Rattle.tables.specs.View.{Stored, backpointers_of, entries_of, messages_of, no_partition, pack, pack_backpointers, pack_entries, pack_partition, pack_queue, pack_records, partition_at, records_of, view, zero_partition, Entries, Backpointers, Records, Queue}
 use Rattle.tables.specs.declared.Partition.{Partition}
-use Rattle.tables.specs.declared.Queue.{Queue}
-use Rattle.tables.specs.declared.Records.{Records}
 use Rattle.tables.specs.declared.Tables.{Tables}
 use Rattle.lists.proofs.Fills.{take-pad}
 use Rattle.lists.proofs.Images.{map_at}

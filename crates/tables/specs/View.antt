@@ -2,21 +2,35 @@
 -- that is stored so.
 use Rattle.std.specs.Prelude.{Bool, false, not, List, [], ◌∷◌, map, ◌≡◌, ◌<◌, ◌≤◌, ℕ, eqb, get_or, length, take}
 use Rattle.lists.specs.Lists.{all, every, pad, tidy}
+use Rattle.lists.specs.declared.Bounded.{Bounded}
 use Rattle.protocol.specs.Bounds.{largest_number, max_backpointers, max_entries, max_messages, max_partitions, max_records, queue_count}
 use Rattle.protocol.specs.declared.Backpointer.{Backpointer}
 use Rattle.protocol.specs.declared.Entry.{Entry}
 use Rattle.protocol.specs.declared.Message.{Message}
 use Rattle.protocol.specs.declared.Record.{Record}
 use Rattle.tables.specs.Slots.{free_backpointer, free_entry, free_message, free_record, zero_backpointer, zero_entry, zero_message, zero_record}
-use Rattle.tables.specs.declared.Backpointers.{Backpointers}
-use Rattle.tables.specs.declared.Entries.{Entries}
 use Rattle.tables.specs.declared.Partition.{Partition}
-use Rattle.tables.specs.declared.Queue.{Queue}
-use Rattle.tables.specs.declared.Records.{Records}
 use Rattle.tables.specs.declared.Tables.{Tables}
 use Rattle.protocol.specs.Tables.{Partition as Part, Model, no_partition as no_part}
 
+-- ---- the lists of the tables
+
+abbrev pub Entries : Type 0
+Entries = Bounded Entry max_entries
+
+abbrev pub Backpointers : Type 0
+Backpointers = Bounded Backpointer max_backpointers
+
+abbrev pub Records : Type 0
+Records = Bounded Record max_records
+
+abbrev pub Queue : Type 0
+Queue = Bounded Message max_messages
+
 -- ---- the view
+
+abbrev pub list_of : {A : Type 0} {N : ℕ} → Bounded A N → List A
+list_of x = take x.count x.items
 
 abbrev pub entries_of : Entries → List Entry
 entries_of x = take x.count x.items
@@ -44,6 +58,9 @@ unfoldable pub view : Tables → Model
 view t = record { partitions = map view_partition (take t.count t.partitions); queues = map messages_of t.queues }
 
 -- ---- the stored form of a model: each list in its array, the slots past it zero, and so the partitions that are not there
+
+abbrev pub pack_list : {A : Type 0} (N : ℕ) → A → List A → Bounded A N
+pack_list N z l = record { count = length l; items = pad N z l }
 
 abbrev pub pack_entries : List Entry → Entries
 pack_entries l = record { count = length l; items = pad max_entries zero_entry l }

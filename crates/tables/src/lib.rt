@@ -1,6 +1,7 @@
 // The tables by value, with document 01's bounds: lists in arrays, each with its count. `specs/View.antt` says what they mean.
 #![tactic(auto)]
 
+use lists::Bounded;
 use protocol::{Backpointer, Entry, Message, Record};
 
 pub mod elements;
@@ -27,29 +28,13 @@ pub const LARGEST_NUMBER: u32 = 4294967295;
 // One queue for each ordered pair of partitions.
 pub const QUEUES: usize = 16;
 
-#[derive(Clone, Copy)]
-pub struct Entries {
-    pub count: usize,
-    pub items: [Entry; MAX_ENTRIES],
-}
+pub type Entries = Bounded<Entry, MAX_ENTRIES>;
 
-#[derive(Clone, Copy)]
-pub struct Backpointers {
-    pub count: usize,
-    pub items: [Backpointer; MAX_BACKPOINTERS],
-}
+pub type Backpointers = Bounded<Backpointer, MAX_BACKPOINTERS>;
 
-#[derive(Clone, Copy)]
-pub struct Records {
-    pub count: usize,
-    pub items: [Record; MAX_RECORDS],
-}
+pub type Records = Bounded<Record, MAX_RECORDS>;
 
-#[derive(Clone, Copy)]
-pub struct Queue {
-    pub count: usize,
-    pub items: [Message; MAX_MESSAGES],
-}
+pub type Queue = Bounded<Message, MAX_MESSAGES>;
 
 #[derive(Clone, Copy)]
 pub struct Partition {
@@ -60,7 +45,8 @@ pub struct Partition {
     pub records: Records,
 }
 
-// The queue from s to r stands at place s * 4 + r.
+// The queue from s to r stands at place s * 4 + r. The count stands beside the partitions, and not in a Bounded: `shaped` asks of the
+// places past it that they are absent, not free slots.
 #[derive(Clone, Copy)]
 pub struct Tables {
     pub count: usize,

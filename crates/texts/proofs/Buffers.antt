@@ -118,9 +118,9 @@ module _ (n : ℕ) (out : List ℕ) (at : ℕ) (h : at + length (space ∷ decim
   pub next-room : at < length out
   next-room = omega arith
 
-  pub next-put : (a : List ℕ) (p : ℕ) → Adds (space ∷ []) out at a p → (b : List ℕ) (q : ℕ) → Puts (decimal_of n) a p b q → Adds (space ∷ decimal_of n) out at b q
-  next-put a p r b q s =
+  pub next-put : (a : List ℕ) (p : ℕ) → Adds (space ∷ []) out at a p → (m : ℕ) → m ≡ n → (b : List ℕ) (q : ℕ) → Puts (decimal_of m) a p b q → Adds (space ∷ decimal_of n) out at b q
+  next-put a p r m e b q s =
       let l : length a ≡ length out = adds-length (space ∷ []) out at a p (omega arith) r in
-      adds_on (space ∷ []) out at a p (decimal_of n) b q (omega arith) r (puts-adds (decimal_of n) a p b q (omega (arith, r.place)) s)
+      adds_on (space ∷ []) out at a p (decimal_of n) b q (omega arith) r (puts-adds (decimal_of n) a p b q (omega (arith, r.place)) (rw e at s))
 
 pub ruleset nexts = (next-room, next-put)

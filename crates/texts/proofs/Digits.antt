@@ -54,33 +54,45 @@ module _ (before : List ℕ) (end n : ℕ) where
     pub bytes : after ≡ take at before ++ (tail ++ drop end before)
     pub same : length after ≡ length before
 
-  pub write-start : length (decimal_of n) ≤ end → end ≤ length before → Writing before end n
-  write-start h g =
-      record { room = h; within = g; tail = []; whole = sym (append-nil (decimal_of n)); place = omega arith; bytes = sym (take-append-drop end before); same = refl }
+  module _ (h : length (decimal_of n) ≤ end) where
+    pub write-first : 1 ≤ end
+    write-first = omega (arith, digits-least n)
 
-  module _ (after : List ℕ) (at rest : ℕ) (r : Writing after at rest) where
-    pub write-least : 1 ≤ at
-    write-least = omega (arith, r.room, digits-least rest)
+    pub write-start : end ≤ length before → Writing before (end - 1 + 1) n
+    write-start g =
+        let l = write-first in
+        let e : end - 1 + 1 ≡ end = omega arith in
+        rw e (record {
+          room = h;
+          within = g;
+          tail = [];
+          whole = sym (append-nil (decimal_of n));
+          place = omega arith;
+          bytes = sym (take-append-drop end before);
+          same = refl;
+        })
 
-    pub write-index : at - 1 < length after
-    write-index = let l = write-least in omega (arith, r.within, r.place, r.same)
+  module _ (after : List ℕ) (at rest : ℕ) (r : Writing after (at + 1) rest) where
+    pub write-index : at < length after
+    write-index = omega (arith, r.within, r.place, r.same)
 
-    pub write_same : (d : ℕ) → length (set after (at - 1) d) ≡ length before
-    write_same d = length-set after (at - 1) d ∙ r.same
+    pub write-more : base ≤ rest → 1 ≤ at
+    write-more h = omega (arith, r.room, length_more rest h, digits-least (rest / base))
+
+    pub write_same : (d : ℕ) → length (set after at d) ≡ length before
+    write_same d = length-set after at d ∙ r.same
 
     -- one digit more in front
-    stored : (d : ℕ) → set after (at - 1) d ≡ take (at - 1) before ++ (d ∷ r.tail ++ drop end before)
+    stored : (d : ℕ) → set after at d ≡ take at before ++ (d ∷ r.tail ++ drop end before)
     stored d =
-        let l = write-least in
         let i = write-index in
-        let e : at - 1 + 1 ≡ at = omega arith in
-        let b : after ≡ take (at - 1 + 1) before ++ (r.tail ++ drop end before) = r.bytes ∙ rw e in
-        rw b (set_before before (r.tail ++ drop end before) (at - 1) d (omega (arith, r.same)))
+        rw r.bytes (set_before before (r.tail ++ drop end before) at d (omega (arith, r.same)))
 
-    pub write-turn : base ≤ rest → (d : ℕ) → d ≡ digit_zero + rest % base → Writing (set after (at - 1) d) (at - 1) (rest / base)
+    pub write-turn : base ≤ rest → (d : ℕ) → d ≡ digit_zero + rest % base → Writing (set after at d) (at - 1 + 1) (rest / base)
     write-turn h d e =
-        let l = write-least in
-        record {
+        let l = write-more h in
+        let p : at - 1 + 1 ≡ at = omega arith in
+        rw p (record {
           room = omega (arith, r.room, length_more rest h);
           within = r.within;
           tail = d ∷ r.tail;
@@ -88,16 +100,15 @@ module _ (before : List ℕ) (end n : ℕ) where
           place = omega (arith, r.place);
           bytes = stored d;
           same = write_same d;
-        }
+        })
 
-    pub write_done : rest < base → (d : ℕ) → d ≡ digit_zero + rest → set after (at - 1) d ≡ written before (end - length (decimal_of n)) (decimal_of n)
+    pub write_done : rest < base → (d : ℕ) → d ≡ digit_zero + rest → set after at d ≡ written before (end - length (decimal_of n)) (decimal_of n)
     unfolding written
     write_done h d e =
-        let l = write-least in
         let w : decimal_of n ≡ d ∷ r.tail = r.whole ∙ rw (decimal-one rest h, ← e) in
         let k = ap length w in
-        let p : end - length (decimal_of n) ≡ at - 1 = omega (arith, r.place) in
-        let q : at - 1 + length (d ∷ r.tail) ≡ end = omega (arith, r.place) in
+        let p : end - length (decimal_of n) ≡ at = omega (arith, r.place) in
+        let q : at + length (d ∷ r.tail) ≡ end = omega (arith, r.place) in
         stored d ∙ rw (p, w, q)
 
-pub ruleset writing = (write-start, write-least, write-index, write_same, write-turn, write_done)
+pub ruleset writing = (write-first, write-start, write-index, write-more, write_same, write-turn, write_done)

@@ -2,15 +2,14 @@
 use mathlib.Core.Bool.{Bool, false, true}
 use mathlib.Core.List.{List, [], ◌∷◌}
 use mathlib.Core.Path.{◌∙◌, ◌≡◌, ap, refl, sym}
-use Prim.Native.Nat.{◌<◌, ◌≤◌, ℕ}
+use Prim.Native.Nat.{◌<◌, ℕ}
 use native.Mathlib.Omega.{arith}
 use borrow.Author.Tests.{leb-false}
 use lib.Dec.{eqb, leb}
 use lib.ListN.{get_or, length, take}
-use lib.Seq.{length-take-le}
-use Rattle.lists.specs.Lists.{first_at, is_none, is_some, keep, pick}
-use Rattle.lists.specs.declared.Found.{Found}
-use Rattle.lists.specs.declared.Found.TheVariants.{At, Nothing}
+use Rattle.std.specs.Prelude.{None, Option, Some}
+use Rattle.std.specs.Option.{is_some as is_found}
+use Rattle.lists.specs.Lists.{first_at, is_some, keep, pick}
 use Rattle.protocol.specs.Bounds.{max_backpointers}
 use Rattle.protocol.specs.Deliver.{add_verdict, drop_verdict, in_its_place, is_exactly, of_object, place_verdict, to_add, unless_full, verdict_of}
 use Rattle.protocol.specs.declared.Backpointer.{Backpointer}
@@ -19,94 +18,46 @@ use Rattle.protocol.specs.declared.Body.TheVariants.{No, NoBecause, Yes}
 use Rattle.protocol.specs.declared.Kind.{Kind}
 use Rattle.protocol.specs.declared.Kind.TheVariants.{Create, Link, Unlink}
 use Rattle.protocol.specs.declared.Message.{Message}
-use Rattle.protocol.specs.declared.Reason.TheVariants.{ObjectIdle, ObjectInUse, PlaceTaken}
+use Rattle.protocol.specs.declared.Reason.TheVariants.{PlaceTaken}
 use Rattle.protocol.specs.declared.Verdict.{Verdict}
 use Rattle.protocol.specs.declared.Verdict.TheVariants.{AddsIt, DropsIt, SaysOnly}
 use Rattle.tables.specs.Slots.{no_backpointer}
-use Rattle.lists.proofs.Finds.{found-kept, hit-some, none_kept}
+use Rattle.lists.proofs.Finds.{found-kept, none_kept, present}
 use Rattle.lists.proofs.Tests.{no_true}
-
-pub full-read : (xs : List Backpointer) (n : ℕ) → n ≤ length xs → leb max_backpointers n ≡ leb max_backpointers (length (take n xs))
-full-read xs n h = rw (length-take-le n xs h) refl
-
--- ---- nothing stands in the place: bs are the back-pointers of the object
-
-module _ (k : Kind) (bs : List Backpointer) (full idle : Bool) (e : idle ≡ is_none bs) where
-  pub link-idle : k ≡ Link → idle ≡ true → SaysOnly (NoBecause ObjectIdle) ≡ add_verdict k bs full
-  link-idle q t = rw q (go bs (sym e ∙ t))
-    where
-      go : (l : List Backpointer) → is_none l ≡ true → SaysOnly (NoBecause ObjectIdle) ≡ add_verdict Link l full
-      go [] h = refl
-      go (b ∷ l) h = no_true h refl
-
-  pub link-used : (v : Verdict) (c : Bool) → k ≡ Link → idle ≡ false → v ≡ unless_full c → c ≡ full → v ≡ add_verdict k bs full
-  link-used v c q t h g = h ∙ ap unless_full g ∙ rw q (go bs (sym e ∙ t))
-    where
-      go : (l : List Backpointer) → is_none l ≡ false → unless_full full ≡ add_verdict Link l full
-      go [] h = no_true refl h
-      go (b ∷ l) h = refl
-
-  pub create-idle : (v : Verdict) (c : Bool) → k ≡ Create → idle ≡ true → v ≡ unless_full c → c ≡ full → v ≡ add_verdict k bs full
-  create-idle v c q t h g = h ∙ ap unless_full g ∙ rw q (go bs (sym e ∙ t))
-    where
-      go : (l : List Backpointer) → is_none l ≡ true → unless_full full ≡ add_verdict Create l full
-      go [] h = refl
-      go (b ∷ l) h = no_true h refl
-
-  pub create-used : k ≡ Create → idle ≡ false → SaysOnly (NoBecause ObjectInUse) ≡ add_verdict k bs full
-  create-used q t = rw q (go bs (sym e ∙ t))
-    where
-      go : (l : List Backpointer) → is_none l ≡ false → SaysOnly (NoBecause ObjectInUse) ≡ add_verdict Create l full
-      go [] h = no_true refl h
-      go (b ∷ l) h = refl
-
-pub unlink-added : (k : Kind) (bs : List Backpointer) (full : Bool) → k ≡ Unlink → SaysOnly No ≡ add_verdict k bs full
-unlink-added k bs full q = rw q refl
-
-pub ruleset additions = (link-idle, link-used, create-idle, create-used, unlink-added)
 
 -- ---- the place is looked for, or the back-pointer itself
 
-module _ (xs : List Backpointer) (n s : ℕ) (x : Message) (f : Found) where
+module _ (xs : List Backpointer) (n s : ℕ) (x : Message) (f : Option ℕ) where
   module _ (e : f ≡ first_at (in_its_place s x) (take n xs)) (other v : Verdict) where
-    pub place-free : f ≡ Nothing → v ≡ other → v ≡ place_verdict x (keep (in_its_place s x) (take n xs)) other
+    pub place-free : f ≡ None → v ≡ other → v ≡ place_verdict x (keep (in_its_place s x) (take n xs)) other
     place-free q h = h ∙ rw (none_kept (in_its_place s x) 0 (take n xs) (sym e ∙ q)) refl
 
-    pub place-held : (i : ℕ) (b : Backpointer) → f ≡ At i → b ≡ get_or xs i no_backpointer
+    pub place-held : (i : ℕ) (b : Backpointer) → f ≡ Some i → b ≡ get_or xs i no_backpointer
         → v ≡ pick (eqb b.number x.number) (SaysOnly Yes) (SaysOnly (NoBecause PlaceTaken))
         → v ≡ place_verdict x (keep (in_its_place s x) (take n xs)) other
     place-held i b q r h =
         let w = found-kept (in_its_place s x) xs n i f e q no_backpointer in
         h ∙ rw r refl ∙ ap (λ (l : List Backpointer). place_verdict x l other) (sym w.1)
 
-  module _ (e : f ≡ first_at (is_exactly s x) (take n xs)) where
-    pub exact-absent : f ≡ Nothing → SaysOnly No ≡ drop_verdict (keep (is_exactly s x) (take n xs))
-    exact-absent q = rw (none_kept (is_exactly s x) 0 (take n xs) (sym e ∙ q)) refl
-
-    pub exact-stands : (i : ℕ) → f ≡ At i → DropsIt ≡ drop_verdict (keep (is_exactly s x) (take n xs))
-    exact-stands i q = go (keep (is_exactly s x) (take n xs)) (hit-some (is_exactly s x) (take n xs) f e i q)
+  -- b is whether it was found
+  module _ (e : f ≡ first_at (is_exactly s x) (take n xs)) (b : Bool) (g : b ≡ is_found f) where
+    pub exact-absent : b ≡ false → SaysOnly No ≡ drop_verdict (keep (is_exactly s x) (take n xs))
+    exact-absent q = go (keep (is_exactly s x) (take n xs)) (sym (present (is_exactly s x) (take n xs) f e) ∙ sym g ∙ q)
       where
-        go : (l : List Backpointer) → true ≡ is_some l → DropsIt ≡ drop_verdict l
-        go [] h = no_true (sym h) refl
-        go (b ∷ l) h = refl
+        go : (l : List Backpointer) → is_some l ≡ false → SaysOnly No ≡ drop_verdict l
+        go [] h = refl
+        go (c ∷ l) h = no_true refl h
+
+    pub exact-stands : b ≡ true → DropsIt ≡ drop_verdict (keep (is_exactly s x) (take n xs))
+    exact-stands q = go (keep (is_exactly s x) (take n xs)) (sym (present (is_exactly s x) (take n xs) f e) ∙ sym g ∙ q)
+      where
+        go : (l : List Backpointer) → is_some l ≡ true → DropsIt ≡ drop_verdict l
+        go [] h = no_true h refl
+        go (c ∷ l) h = refl
 
 pub ruleset places = (place-free, place-held)
 
 pub ruleset exacts = (exact-absent, exact-stands)
-
--- ---- by the kind of the request
-
-module _ (k : Kind) (bs : List Backpointer) (s : ℕ) (x : Message) (v : Verdict) where
-  pub verdict-link : k ≡ Link → v ≡ to_add Link bs s x → v ≡ verdict_of k bs s x
-  verdict-link q h = h ∙ rw q refl
-
-  pub verdict-create : k ≡ Create → v ≡ to_add Create bs s x → v ≡ verdict_of k bs s x
-  verdict-create q h = h ∙ rw q refl
-
-  pub verdict-unlink : k ≡ Unlink → v ≡ drop_verdict (keep (is_exactly s x) bs) → v ≡ verdict_of k bs s x
-  verdict-unlink q h = h ∙ rw q refl
-
-pub ruleset verdicts = (verdict-link, verdict-create, verdict-unlink)
 
 -- ---- only where there is room does a verdict add
 

@@ -10,27 +10,20 @@ ghost use Rattle.protocol.specs.declared.Reason.TheVariants.{PlaceTaken};
 ghost use Rattle.protocol.specs.declared.Verdict.TheVariants.{SaysOnly};
 ghost use Rattle.tables.specs.View.{backpointers_of};
 
-use lists::Found;
 use protocol::{Backpointer, Body, Kind, Message, Reason, Verdict};
 use tables::{Backpointers, MAX_BACKPOINTERS, reads};
 
 // Whether the object has no back-pointer.
-fn is_idle(l: Backpointers, object: u8) -> bool
-    requires { l.count ≤ max_backpointers }
-    ensures { result ≡ is_none (keep (of_object object) (backpointers_of l)) }
+fn is_idle(l: &Backpointers, object: u8) -> bool
+    ensures { result ≡ is_none (keep (of_object object) (backpointers_of l.now)) }
 {
-    let found = reads::find_object(l, object);
-    match found {
-        Found::At(_) => false,
-        Found::Nothing => true,
-    }
+    reads::find_object(l, object).is_none()
 }
 
-fn is_full(l: Backpointers) -> bool
-    requires { l.count ≤ max_backpointers }
-    ensures { result ≡ leb max_backpointers (length (backpointers_of l)) }
+fn is_full(l: &Backpointers) -> bool
+    ensures { result ≡ leb max_backpointers (length (backpointers_of l.now)) }
 {
-    MAX_BACKPOINTERS <= l.count
+    MAX_BACKPOINTERS <= l.listed().len()
 }
 
 fn unless_full(full: bool) -> Verdict
@@ -43,81 +36,55 @@ fn unless_full(full: bool) -> Verdict
 }
 
 // Nothing stands in the place of the request.
-fn add_verdict(kind: Kind, l: Backpointers, object: u8) -> Verdict
-    requires { l.count ≤ max_backpointers }
-    ensures { result ≡ add_verdict kind (keep (of_object object) (backpointers_of l)) (leb max_backpointers (length (backpointers_of l))) }
+fn add_verdict(kind: Kind, l: &Backpointers, object: u8) -> Verdict
+    ensures { result ≡ add_verdict kind (keep (of_object object) (backpointers_of l.now)) (leb max_backpointers (length (backpointers_of l.now))) }
 {
     let idle = is_idle(l, object);
-    let full = is_full(l);
     match kind {
-        Kind::Link => {
-            if idle {
-                return Verdict::SaysOnly(Body::NoBecause(Reason::ObjectIdle));
-            }
-            unless_full(full)
-        }
-        Kind::Create => {
-            if idle {
-                return unless_full(full);
-            }
-            Verdict::SaysOnly(Body::NoBecause(Reason::ObjectInUse))
-        }
+        Kind::Link if idle => Verdict::SaysOnly(Body::NoBecause(Reason::ObjectIdle)),
+        Kind::Create if !idle => Verdict::SaysOnly(Body::NoBecause(Reason::ObjectInUse)),
+        Kind::Link | Kind::Create => unless_full(is_full(l)),
         // not asked: an unlink asks to remove
         Kind::Unlink => Verdict::SaysOnly(Body::No),
     }
-}
-
-fn bears(b: Backpointer, number: u32) -> bool
-    ensures { result ≡ eqb b.number number }
-{
-    b.number == number
 }
 
 // The back-pointer b stands in the place of the request x.
 fn held_verdict(b: Backpointer, x: Message) -> Verdict
     ensures { result ≡ pick (eqb b.number x.number) (SaysOnly Yes) (SaysOnly (NoBecause PlaceTaken)) }
 {
-    if bears(b, x.number) {
+    if b.number == x.number {
         return Verdict::SaysOnly(Body::Yes);
     }
     Verdict::SaysOnly(Body::NoBecause(Reason::PlaceTaken))
 }
 
-fn to_add(kind: Kind, l: Backpointers, s: u8, x: Message) -> Verdict
-    requires { l.count ≤ max_backpointers }
-    ensures { result ≡ to_add kind (backpointers_of l) s x }
+fn to_add(kind: Kind, l: &Backpointers, s: u8, x: Message) -> Verdict
+    requires { l.now.count ≤ max_backpointers }
+    ensures { result ≡ to_add kind (backpointers_of l.now) s x }
 {
-    let name = x.name;
-    let found = reads::find_place(l, x.object, s, x.directory, name);
-    match found {
-        Found::Nothing => add_verdict(kind, l, x.object),
-        Found::At(i) => {
-            let b = l.items[i];
-            held_verdict(b, x)
-        }
+    match reads::find_place(l, x.object, s, x.directory, x.name) {
+        Some(i) => held_verdict(l.items[i], x),
+        None => add_verdict(kind, l, x.object),
     }
 }
 
-fn to_remove(l: Backpointers, s: u8, x: Message) -> Verdict
-    requires { l.count ≤ max_backpointers }
-    ensures { result ≡ drop_verdict (keep (is_exactly s x) (backpointers_of l)) }
+fn to_remove(l: &Backpointers, s: u8, x: Message) -> Verdict
+    ensures { result ≡ drop_verdict (keep (is_exactly s x) (backpointers_of l.now)) }
 {
-    let found = reads::find_exactly(l, s, x);
-    match found {
-        Found::Nothing => Verdict::SaysOnly(Body::No),
-        Found::At(_) => Verdict::DropsIt,
+    if reads::find_exactly(l, s, &x).is_some() {
+        return Verdict::DropsIt;
     }
+    Verdict::SaysOnly(Body::No)
 }
 
 // The request x came from partition s.
-pub fn verdict(l: Backpointers, s: u8, x: Message) -> Verdict
-    requires { l.count ≤ max_backpointers }
-    ensures { result ≡ verdict_of x.kind (backpointers_of l) s x }
+pub fn verdict(l: &Backpointers, s: u8, x: Message) -> Verdict
+    requires { l.now.count ≤ max_backpointers }
+    ensures { result ≡ verdict_of x.kind (backpointers_of l.now) s x }
 {
-    let kind = x.kind;
-    match kind {
-        Kind::Link => to_add(Kind::Link, l, s, x),
-        Kind::Create => to_add(Kind::Create, l, s, x),
+    match x.kind {
+        Kind::Link | Kind::Create => to_add(x.kind, l, s, x),
         Kind::Unlink => to_remove(l, s, x),
     }
 }

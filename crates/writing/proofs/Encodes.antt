@@ -1,17 +1,16 @@
 -- Putting one record: what the calls lay, one behind another.
 use mathlib.Core.List.{List, [], ◌∷◌}
-use mathlib.Core.Path.{◌≡◌, refl}
+use mathlib.Core.Path.{◌∙◌, ◌≡◌, ap, refl}
 use Prim.Native.Nat.{◌+◌, ◌≤◌, ℕ}
 use native.Mathlib.Omega.{arith}
-use lib.ListN.{length, take}
-use lib.Seq.{length-take-le}
-use Rattle.names.specs.Names.{name_bytes}
+use lib.ListN.{length}
+use Rattle.std.specs.Int.{to_be_bytes, w16, w32}
 use Rattle.names.specs.declared.Name.{Name}
 use Rattle.protocol.specs.Elements.{kind_number}
 use Rattle.protocol.specs.declared.Backpointer.{Backpointer}
 use Rattle.protocol.specs.declared.Entry.{Entry}
 use Rattle.protocol.specs.declared.Record.{Record}
-use Rattle.codec.specs.Codec.{be2, be4, byte, long, run, then, those, via, word}
+use Rattle.codec.specs.Codec.{be2, be4, byte, long, then, those, via, word}
 use Rattle.codec.specs.Over.{over}
 use Rattle.picture.specs.Answers.{Put}
 use Rattle.picture.specs.Picture.{bp, ed, en, hd, lg, first, item_form, letter_b, letter_d, letter_e, letter_g, letter_h, letter_l, letter_n, letter_p, name_form}
@@ -20,7 +19,7 @@ use Rattle.picture.specs.declared.Head.{Head}
 use Rattle.picture.specs.declared.Item.{Item}
 use Rattle.lists.proofs.Arrays.{length-of}
 use Rattle.codec.proofs.Puts.{laid}
-use Rattle.picture.proofs.Lengths.{Eight, backpointer-length, entry_length, item-length, name-length, record-length}
+use Rattle.picture.proofs.Lengths.{Eight, backpointer-length, entry_length, item-length, name-length, name-put, record-length}
 use mir.Val.{Val}
 use denote.Laws.{Is}
 use Rattle.names.specs.contracts.Name as name
@@ -45,36 +44,35 @@ backpointer-eight b vs h = search length-of
 pub record-eight : (r : Record) (vs : List Val) → Is log.the_row r vs → Eight r.name
 record-eight r vs h = search length-of
 
-pub put-two-2 : (l b1 b2 : List ℕ) (at x y : ℕ) → at + 2 ≤ length l → b1 ≡ over l at (x ∷ []) → b2 ≡ over b1 (at + 1) (y ∷ []) → b2 ≡ over l at (x ∷ y ∷ [])
-put-two-2 l b1 b2 at x y h p q = laid l b1 b2 at 1 (x ∷ []) (y ∷ []) p q refl (omega arith)
+-- the library's bytes of a number
+be2-is : (n : ℕ) → to_be_bytes w16 n ≡ be2 n
+unfolding be2
+be2-is n = refl
 
-pub put-name-2 : (l b1 b2 : List ℕ) (at : ℕ) (n : Name) → at + 9 ≤ length l → Eight n → b1 ≡ over l at (n.len ∷ []) → b2 ≡ over b1 (at + 1) (take name_bytes n.bytes) → b2 ≡ over l at ((name_form first).put n)
-unfolding name_form via then byte run
-put-name-2 l b1 b2 at n h e p q =
-    let k : length (take name_bytes n.bytes) ≡ 8 = length-take-le name_bytes n.bytes (omega arith) in
-    laid l b1 b2 at 1 (n.len ∷ []) (take name_bytes n.bytes) p q refl (omega arith)
+be4-is : (n : ℕ) → to_be_bytes w32 n ≡ be4 n
+unfolding be4
+be4-is n = refl
 
-pub put-three-2 : (l b1 b2 : List ℕ) (at x y z : ℕ) → at + 3 ≤ length l → b1 ≡ over l at (x ∷ y ∷ []) → b2 ≡ over b1 (at + 2) (z ∷ []) → b2 ≡ over l at (x ∷ y ∷ z ∷ [])
-put-three-2 l b1 b2 at x y z h p q = laid l b1 b2 at 2 (x ∷ y ∷ []) (z ∷ []) p q refl (omega arith)
+pub put-name-2 : (l b1 b2 : List ℕ) (at : ℕ) (n : Name) → at + 9 ≤ length l → Eight n → b1 ≡ over l at (n.len ∷ []) → b2 ≡ over b1 (at + 1) n.bytes → b2 ≡ over l at ((name_form first).put n)
+put-name-2 l b1 b2 at n h e p q = rw (name-put n e) (laid l b1 b2 at 1 (n.len ∷ []) n.bytes p q refl (omega arith))
 
 pub put-item-3 : (l b1 b2 b3 : List ℕ) (at x y z k : ℕ) (n : Name) → at + 16 ≤ length l → Eight n → b1 ≡ over l at (x ∷ y ∷ z ∷ [])
-    → b2 ≡ over b1 (at + 3) ((name_form first).put n) → b3 ≡ over b2 (at + 12) (be4 k) → b3 ≡ over l at ((item_form first).put (x, (y, (z, (n, k)))))
+    → b2 ≡ over b1 (at + 3) ((name_form first).put n) → b3 ≡ over b2 (at + 12) (to_be_bytes w32 k) → b3 ≡ over l at ((item_form first).put (x, (y, (z, (n, k)))))
 unfolding item_form then byte long be4
 put-item-3 l b1 b2 b3 at x y z k n h e p q r =
     let m = name-length n e in
     let o = laid l b1 b2 at 3 (x ∷ y ∷ z ∷ []) ((name_form first).put n) p q refl (omega arith) in
-    laid l b2 b3 at 12 (x ∷ y ∷ z ∷ (name_form first).put n) (be4 k) o r (omega arith) (omega arith)
+    laid l b2 b3 at 12 (x ∷ y ∷ z ∷ (name_form first).put n) (be4 k) o (r ∙ ap (over b2 (at + 12)) (be4-is k)) (omega arith) (omega arith)
 
-pub put-head-4 : (l b1 b2 b3 b4 : List ℕ) (h : Head) → 8 ≤ length l → b1 ≡ over l 0 (letter_h ∷ letter_d ∷ []) → b2 ≡ over b1 2 (h.partition ∷ []) → b3 ≡ over b2 3 (h.count ∷ []) → b4 ≡ over b3 4 (be4 h.last) → b4 ≡ over l 0 (put_row (hd first) h)
+pub put-head-3 : (l b1 b2 b3 : List ℕ) (h : Head) → 8 ≤ length l → b1 ≡ over l 0 (letter_h ∷ letter_d ∷ []) → b2 ≡ over b1 2 (h.partition ∷ h.count ∷ []) → b3 ≡ over b2 4 (to_be_bytes w32 h.last) → b3 ≡ over l 0 (put_row (hd first) h)
 unfolding put_row hd via then byte long be4
-put-head-4 l b1 b2 b3 b4 h g p1 p2 p3 p4 =
-    let q2 = laid l b1 b2 0 2 (letter_h ∷ letter_d ∷ []) (h.partition ∷ []) p1 p2 refl (omega arith) in
-    let q3 = laid l b2 b3 0 3 (letter_h ∷ letter_d ∷ h.partition ∷ []) (h.count ∷ []) q2 p3 refl (omega arith) in
-    laid l b3 b4 0 4 (letter_h ∷ letter_d ∷ h.partition ∷ h.count ∷ []) (be4 h.last) q3 p4 refl (omega arith)
+put-head-3 l b1 b2 b3 h g p1 p2 p3 =
+    let q2 = laid l b1 b2 0 2 (letter_h ∷ letter_d ∷ []) (h.partition ∷ h.count ∷ []) p1 p2 refl (omega arith) in
+    laid l b2 b3 0 4 (letter_h ∷ letter_d ∷ h.partition ∷ h.count ∷ []) (be4 h.last) q2 (p3 ∙ ap (over b2 4) (be4-is h.last)) refl (omega arith)
 
-pub put-close-2 : (l b1 b2 : List ℕ) (at n : ℕ) → at + 4 ≤ length l → b1 ≡ over l at (letter_e ∷ letter_d ∷ []) → b2 ≡ over b1 (at + 2) (be2 n) → b2 ≡ over l at (put_row ed n)
+pub put-close-2 : (l b1 b2 : List ℕ) (at n : ℕ) → at + 4 ≤ length l → b1 ≡ over l at (letter_e ∷ letter_d ∷ []) → b2 ≡ over b1 (at + 2) (to_be_bytes w16 n) → b2 ≡ over l at (put_row ed n)
 unfolding put_row ed word be2
-put-close-2 l b1 b2 at n h p q = laid l b1 b2 at 2 (letter_e ∷ letter_d ∷ []) (be2 n) p q refl (omega arith)
+put-close-2 l b1 b2 at n h p q = laid l b1 b2 at 2 (letter_e ∷ letter_d ∷ []) (be2 n) p (q ∙ ap (over b1 (at + 2)) (be2-is n)) refl (omega arith)
 
 module _ (l b1 b2 : List ℕ) (at : ℕ) where
   pub put-entry-2 : (e : Entry) → at + 18 ≤ length l → Eight e.name → b1 ≡ over l at (letter_e ∷ letter_n ∷ [])
@@ -100,4 +98,4 @@ module _ (l b1 b2 : List ℕ) (at : ℕ) where
       let q3 = laid l b2 b3 at 3 (letter_l ∷ letter_g ∷ k ∷ []) _ q2 o refl (omega arith) in
       record { place = refl; long = record-length r m; bytes = rw j at q3 }
 
-pub ruleset encodes = (put-two-2, put-three-2, put-name-2, put-item-3, put-head-4, put-close-2, put-entry-2, put-backpointer-2, put-record-3, name-eight, item-eight, entry-eight, backpointer-eight, record-eight)
+pub ruleset encodes = (put-name-2, put-item-3, put-head-3, put-close-2, put-entry-2, put-backpointer-2, put-record-3, name-eight, item-eight, entry-eight, backpointer-eight, record-eight)

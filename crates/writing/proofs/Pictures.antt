@@ -53,9 +53,9 @@ five-laid l b1 b2 b3 b4 b5 H E B L D i j k a b c p h ea el e fb fl f gc gl g d d
     q5 ∙ ap (over l 0) (simp append_assoc)
 
 pub picture-laid : (x : Partition) → SizedPartition x → Ranged x → (h : Head) (l b1 b2 b3 b4 b5 : List ℕ) (a b c n : ℕ) → b1 ≡ over l 0 (put_row (hd first) h)
-    → PutAll (en first) 18 b1 head_size x.entries.items x.entries.count a b2
-    → PutAll (bp first) 18 b2 a x.backpointers.items x.backpointers.count b b3
-    → PutAll (lg first) 19 b3 b x.records.items x.records.count c b4
+    → PutAll (en first) 18 b1 head_size (entries_of x.entries) a b2
+    → PutAll (bp first) 18 b2 a (backpointers_of x.backpointers) b b3
+    → PutAll (lg first) 19 b3 b (records_of x.records) c b4
     → n ≡ x.entries.count + x.backpointers.count + x.records.count → b5 ≡ over b4 c (put_row ed n)
     → sized x.entries.count x.backpointers.count x.records.count ≤ length l → b5 ≡ over l 0 (put first h (items_in x))
 unfolding put put_table
@@ -65,6 +65,10 @@ picture-laid x z g h l b1 b2 b3 b4 b5 a b c n p e f o m d r =
     let E = put_rows (en first) (entries_of x.entries) in
     let B = put_rows (bp first) (backpointers_of x.backpointers) in
     let L = put_rows (lg first) (records_of x.records) in
+    let i = ap (λ (m : ℕ). 18 * m) (entry-count x z g) in
+    let j = ap (λ (m : ℕ). 18 * m) (backpointer-count x z g) in
+    let o₂ = ap (λ (m : ℕ). 19 * m) (record-count x z g) in
     five-laid l b1 b2 b3 b4 b5 (put_row (hd first) h) E B L (put_row ed k) x.entries.count x.backpointers.count x.records.count a b c p (head-length h)
-    e.place e.long e.bytes f.place f.long f.bytes o.place o.long o.bytes (d ∙ ap (λ (j : ℕ). over b4 c (put_row ed j)) s) (close-length k) r
+    (e.place ∙ ap (λ (m : ℕ). head_size + m) i) (e.long ∙ i) e.bytes (f.place ∙ ap (λ (m : ℕ). a + m) j) (f.long ∙ j) f.bytes (o.place ∙ ap (λ (m : ℕ). b + m) o₂) (o.long ∙ o₂) o.bytes
+    (d ∙ ap (λ (m : ℕ). over b4 c (put_row ed m)) s) (close-length k) r
     ∙ ap (λ (q : List ℕ). over l 0 (put_row (hd first) h ++ ((E ++ (B ++ q)) ++ put_row ed k))) (sym (append-nil L))

@@ -3,26 +3,17 @@ ghost use Rattle.std.specs.Prelude.{◌≡◌, ◌<◌, ◌≤◌, length};
 ghost use Rattle.codec.specs.Over.{over};
 ghost use Rattle.protocol.specs.Bounds.{max_partitions};
 ghost use Rattle.tables.specs.View.{view, Ranged};
-ghost use Rattle.answers.specs.Called.{Ready};
 ghost use Rattle.picture.specs.Picture.{first, picture_of, put, write};
 ghost use Rattle.picture.specs.Answers.{items_in};
 ghost use Rattle.picture.specs.Store.{written_into};
 ghost use Rattle.picture.proofs.Lengths.{sized};
-ghost use Rattle.writing.specs.Written.{after, refused_for};
+ghost use Rattle.writing.specs.Written.{after};
 
-use crate::{Reported, encode};
+use crate::encode::{put_all, put_close, put_head};
+use answers::here::Here;
 use picture::{BACKPOINTER_SIZE, CLOSE_SIZE, ENTRY_SIZE, HEAD_SIZE, Head, RECORD_SIZE};
 use protocol::Refusal;
-use tables::{Partition, Tables};
-
-pub fn refused(why: Refusal) -> Reported
-    ensures { result ≡ refused_for why }
-{
-    Reported {
-        refusal: why,
-        size: 0,
-    }
-}
+use tables::Partition;
 
 // How many bytes the picture of a partition has.
 pub fn size_of(x: Partition) -> usize
@@ -52,31 +43,23 @@ pub fn put_picture(buf: &mut [u8], head: Head, x: Partition)
     requires { Ranged x × (sized x.entries.count x.backpointers.count x.records.count ≤ length buf.old) }
     ensures { buf.new ≡ over buf.old 0 (put first head (items_in x)) }
 {
-    encode::put_head(buf, head);
-    let entries = x.entries;
-    let a = encode::put_entries(buf, HEAD_SIZE, entries);
-    let backpointers = x.backpointers;
-    let b = encode::put_backpointers(buf, a, backpointers);
-    let records = x.records;
-    let c = encode::put_records(buf, b, records);
-    let n = entries.count + backpointers.count + records.count;
-    encode::put_close(buf, c, n as u32);
+    put_head(buf, head);
+    let a = put_all(buf, HEAD_SIZE, x.entries.listed());
+    let b = put_all(buf, a, x.backpointers.listed());
+    let c = put_all(buf, b, x.records.listed());
+    let n = x.entries.count + x.backpointers.count + x.records.count;
+    put_close(buf, c, n as u16);
 }
 
-// The picture of partition p, which is there.
-pub fn write_there(t: Tables, p: usize, room: &mut [u8]) -> Reported
-    requires { Ready t × (p < t.count) × (p < max_partitions) }
-    ensures { after result room.new ≡ written_into (write first (picture_of (view t) p)) room.old }
+// The picture of the partition that is here.
+pub fn write_there(here: Here, room: &mut [u8]) -> Result<usize, Refusal>
+    ensures { let t = here.entry.tables.now in after result room.new ≡ written_into (write first (picture_of (view t) here.entry.at)) room.old }
 {
-    let x = t.partitions[p];
+    let x = *here.own();
     let size = size_of(x);
     if room.len() < size {
-        return refused(Refusal::RoomTooShort);
+        return Err(Refusal::RoomTooShort);
     }
-    let head = head_of(p, t.count, x.last);
-    put_picture(room, head, x);
-    Reported {
-        refusal: Refusal::Accepted,
-        size,
-    }
+    put_picture(room, head_of(here.at, here.tables.count, x.last), x);
+    Ok(size)
 }

@@ -1,19 +1,13 @@
 use Rattle.advances.proofs.Advances.{records-advanced}
 use Rattle.answers.proofs.Ways.{read-entries}
-use Rattle.tables.proofs.Known.{sized}
 use Rattle.std.proofs.Common.{rules}
 use Rattle.advances.proofs.advance_record.Goals as goal
 
 pub next_step-step-requires : goal.next_step-step-requires
-next_step-step-requires c = search (records-advanced, read-entries, sized, rules)
-
-pub perform-requires : goal.perform-requires
-perform-requires c = (
-  search (records-advanced, read-entries, sized, rules),
-  search (records-advanced, read-entries, sized, rules),
-  search (records-advanced, read-entries, sized, rules),
-  search (records-advanced, read-entries, sized, rules),
-)
+next_step-step-requires c = search (records-advanced, read-entries, rules)
 
 pub returns-clause-result_value : goal.returns-clause-result_value
-returns-clause-result_value c = search (records-advanced, read-entries, sized, rules)
+returns-clause-result_value c = search (records-advanced, rules)
+
+pub perform-requires : goal.perform-requires
+perform-requires c = search (records-advanced, rules)

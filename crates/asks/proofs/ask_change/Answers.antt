@@ -5,8 +5,8 @@ use Rattle.tables.proofs.Known.{sized}
 use Rattle.std.proofs.Common.{rules}
 use Rattle.asks.proofs.ask_change.Goals as goal
 
-pub ask_placed-requires : goal.ask_placed-requires
-ask_placed-requires c = search (asks, refused-applies, ready-stored, sized, rules)
+pub returns-then-not-is_in_range-clause-result_value : goal.returns-then-not-is_in_range-clause-result_value
+returns-then-not-is_in_range-clause-result_value c = search (asks, refused-applies, rules)
 
-pub returns-else-ask_in_range-clause-result_value : goal.returns-else-ask_in_range-clause-result_value
-returns-else-ask_in_range-clause-result_value c = search (asks, refused-applies, ready-stored, sized, rules)
+pub invariant_of-start : goal.invariant_of-start
+invariant_of-start c = search (asks, refused-applies, rules)

@@ -5,8 +5,8 @@ use Rattle.tables.proofs.Known.{sized}
 use Rattle.std.proofs.Common.{rules}
 use Rattle.asks.proofs.open_unlink.Goals as goal
 
-pub add_record-more-requires : goal.add_record-more-requires
-add_record-more-requires c = search (unlinktables, open-records, changed-applies, sized, rules)
-
 pub returns-clause-result_value : goal.returns-clause-result_value
-returns-clause-result_value c = search (unlinktables, open-records, changed-applies, sized, rules)
+returns-clause-result_value c = search (unlinktables, rules)
+
+pub add-requires : goal.add-requires
+add-requires c = search (unlinktables, open-records, changed-applies, sized, rules)

@@ -9,11 +9,11 @@ offset_bounds-l-i c = search (stagings, found_below, found_in, found-fits, rules
 pub bounds-l-i : goal.bounds-l-i
 bounds-l-i c = search (stagings, found_below, found_in, found-fits, rules)
 
-pub set_record-requires : goal.set_record-requires
-set_record-requires c = search (stagings, found_below, found_in, found-fits, rules)
+pub change-requires : goal.change-requires
+change-requires c = search (stagings, found_below, found_in, found-fits, rules)
 
-pub returns-in-Nothing : goal.returns-in-Nothing
-returns-in-Nothing c = search (stagings, found_below, found_in, found-fits, rules)
+pub returns-in-Some : goal.returns-in-Some
+returns-in-Some c = search (stagings, rules)
 
-pub returns-in-At : goal.returns-in-At
-returns-in-At c = search (stagings, found_below, found_in, found-fits, rules)
+pub returns-in_default : goal.returns-in_default
+returns-in_default c = search (stagings, found_below, found_in, found-fits, rules)

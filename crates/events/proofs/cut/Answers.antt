@@ -1,11 +1,6 @@
-use Rattle.tables.proofs.Known.{sized}
-use Rattle.answers.proofs.Calls.{calls}
-use Rattle.answers.proofs.Ways.{now-ready}
 use Rattle.std.proofs.Common.{rules}
+use Rattle.answers.proofs.Calls.{cut-called}
 use Rattle.events.proofs.cut.Goals as goal
 
-pub returns-else-in_order : goal.returns-else-in_order
-returns-else-in_order c = search (calls, now-ready, sized, rules)
-
 pub returns : goal.returns
-returns c = search (calls, now-ready, sized, rules)
+returns c = cut-called c.args.t c.tested.result c.args.a c.args.b (λ ready. search (c.tested.ensures.passed ready, rules)) c.tested.ensures.refused

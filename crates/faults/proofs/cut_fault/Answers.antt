@@ -1,17 +1,42 @@
+use Rattle.faults.proofs.Faulty.{cut-beyond, cut-done, cut-far-down, cut-itself, cut-outside, cut_down, found-four}
 use Rattle.tables.proofs.Known.{sized}
-use Rattle.answers.proofs.Ways.{now-four, now-there}
-use Rattle.faults.proofs.Faulty.{cuts}
+use Rattle.std.proofs.lemmas.Result.{err_from_is_err_and}
 use Rattle.std.proofs.Common.{rules}
 use Rattle.faults.proofs.cut_fault.Goals as goal
 
-pub returns-else-is_there : goal.returns-else-is_there
-returns-else-is_there c = search (cuts, now-there, now-four, sized, rules)
+pub returns-in_err-from : goal.returns-in_err-from
+returns-in_err-from c =
+    let p = err_from_is_err_and c.from_residual.result c.from_residual.ensures.1 in
+    rw (p.1, p.2) (cut-outside _ (search (sized, rules)) c.requires _ _ c.in_err-from.ensures.1 _ c.in_err-from.ensures.0)
 
-pub returns-else-is_there-2 : goal.returns-else-is_there-2
-returns-else-is_there-2 c = search (cuts, now-there, now-four, sized, rules)
+pub returns-in_err-to : goal.returns-in_err-to
+returns-in_err-to c =
+    let p = err_from_is_err_and c.from_residual-in_err-to.result c.from_residual-in_err-to.ensures.1 in
+    rw (p.1, p.2) (cut-beyond _ (search (sized, rules)) c.requires _ _ c.in_err-to.ensures.1 _ c.in_err-to.ensures.0)
 
-pub returns-then-a-b : goal.returns-then-a-b
-returns-then-a-b c = search (cuts, now-there, now-four, sized, rules)
+pub returns-then-from-to : goal.returns-then-from-to
+returns-then-from-to c =
+    cut-itself _ (search (sized, rules)) c.requires _ _ c.in_ok-from.ensures.1 c.in_ok-to.ensures.1 _ _ c.in_ok-from.ensures.0 c.in_ok-to.ensures.0 (search rules)
 
-pub cut_there-requires : goal.cut_there-requires
-cut_there-requires c = search (cuts, now-there, now-four, sized, rules)
+pub up-requires : goal.up-requires
+up-requires c = found-four _ (search (sized, rules)) c.requires _ _ c.in_ok-from.ensures.0 c.in_ok-from.ensures.1
+
+pub returns-in_err-up : goal.returns-in_err-up
+returns-in_err-up c =
+    let p = err_from_is_err_and c.from_residual-in_err-up.result c.from_residual-in_err-up.ensures.1 in
+    rw (p.1, p.2) (cut_down _ (search (sized, rules)) c.requires _ _ c.in_ok-from.ensures.1 c.in_ok-to.ensures.1 _ _ c.in_ok-from.ensures.0 c.in_ok-to.ensures.0 (search rules)
+    c.in_err-up.ensures.1 _ c.in_err-up.ensures.0)
+
+pub up-requires-2 : goal.up-requires-2
+up-requires-2 c = search (found-four, c.in_ok-from.ensures, c.in_ok-to.ensures, sized, rules)
+
+pub returns-in_err-up-2 : goal.returns-in_err-up-2
+returns-in_err-up-2 c =
+    let p = err_from_is_err_and c.from_residual-in_err-up-2.result c.from_residual-in_err-up-2.ensures.1 in
+    rw (p.1, p.2) (cut-far-down _ (search (sized, rules)) c.requires _ _ c.in_ok-from.ensures.1 c.in_ok-to.ensures.1 _ _ c.in_ok-from.ensures.0 c.in_ok-to.ensures.0 (search rules)
+    c.in_err-up-2.ensures.1 _ c.in_err-up-2.ensures.0)
+
+pub returns : goal.returns
+returns c =
+    cut-done _ (search (sized, rules)) c.requires _ _ c.in_ok-from.ensures.1 c.in_ok-to.ensures.1 _ _ c.in_ok-from.ensures.0 c.in_ok-to.ensures.0 (search rules)
+    c.in_ok-up.ensures c.in_ok-up-2.ensures

@@ -1,4 +1,4 @@
-use Rattle.lines.proofs.Commands.{gathering}
+use Rattle.lines.proofs.Commands.{gathering, gather-nameless, gather-numberless}
 use Rattle.std.proofs.Common.{rules}
 use Rattle.lines.proofs.arguments.Goals as goal
 
@@ -8,20 +8,17 @@ loop-k-init c = search (gathering, rules)
 pub returns-then-line-at : goal.returns-then-line-at
 returns-then-line-at c = search (gathering, rules)
 
-pub returns-then-name-eq0 : goal.returns-then-name-eq0
-returns-then-name-eq0 c = search (gathering, rules)
-
-pub loop-k-preserved-then-k-shape : goal.loop-k-preserved-then-k-shape
-loop-k-preserved-then-k-shape c = search (gathering, rules)
-
-pub returns-in_default : goal.returns-in_default
-returns-in_default c = search (gathering, rules)
+pub returns-in_err-numbers : goal.returns-in_err-numbers
+returns-in_err-numbers c = rw c.from_residual.ensures (gather-numberless _ _ c.requires.row _ _ _ _ c.loop-k.invariant c.loop-k-test.true c.if-line-at.false _ c.word_at-word.ensures _ c.eq.ensures c.if-eq.false _ c.number_in.ensures c.in_err-numbers.was)
 
 pub offset_bounds-numbers-k : goal.offset_bounds-numbers-k
 offset_bounds-numbers-k c = search (gathering, rules)
 
 pub bounds-numbers-k : goal.bounds-numbers-k
 bounds-numbers-k c = search (gathering, rules)
+
+pub returns-then-is_empty : goal.returns-then-is_empty
+returns-then-is_empty c = gather-nameless _ _ c.requires.row _ _ _ _ c.loop-k.invariant c.loop-k-test.true c.if-line-at.false _ c.word_at-word.ensures _ c.eq.ensures c.if-eq.true (search rules)
 
 pub loop-k-preserved : goal.loop-k-preserved
 loop-k-preserved c = search (gathering, rules)

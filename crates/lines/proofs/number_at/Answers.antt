@@ -1,12 +1,6 @@
-use Rattle.lines.proofs.Values.{numbering}
+use Rattle.lines.proofs.Commands.{number-end}
 use Rattle.std.proofs.Common.{rules}
 use Rattle.lines.proofs.number_at.Goals as goal
 
-pub returns-else-starts_well : goal.returns-else-starts_well
-returns-else-starts_well c = search (numbering, rules)
-
-pub digits-requires : goal.digits-requires
-digits-requires c = search (numbering, rules)
-
-pub returns : goal.returns
-returns c = search (numbering, rules)
+pub overflow_add-result : goal.overflow_add-result
+overflow_add-result c = number-end _ _ _ c.word_at-word.ensures _ _ c.number_in.ensures c.in_ok-value.was (search rules)

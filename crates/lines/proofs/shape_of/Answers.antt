@@ -52,4 +52,4 @@ returns-in-81 c = search (by-letter, rules)
 
 pub returns-in_default : goal.returns-in_default
 unfolding shaped
-returns-in_default c = by-none _ c.in_default.in_default-own.rest _ c.row-in_default.ensures
+returns-in_default c = by-none _ c.in_default.in_default-own.rest

@@ -3,14 +3,14 @@ use Rattle.tables.proofs.Known.{sized}
 use Rattle.std.proofs.Common.{rules}
 use Rattle.loading.proofs.load.Goals as goal
 
-pub returns-else-in_order : goal.returns-else-in_order
-returns-else-in_order c = search (loads, sized, rules)
+pub returns-then-not-in_order : goal.returns-then-not-in_order
+returns-then-not-in_order c = search (loads, rules)
 
-pub returns-else-is_there : goal.returns-else-is_there
-returns-else-is_there c = search (loads, sized, rules)
+pub returns-then-not-is_there : goal.returns-then-not-is_there
+returns-then-not-is_there c = search (loads, sized, rules)
 
-pub load_there-requires : goal.load_there-requires
-load_there-requires c = search (loads, sized, rules)
+pub invariant_of-here : goal.invariant_of-here
+invariant_of-here c = search (loads, sized, rules)
 
 pub returns : goal.returns
-returns c = search (loads, sized, rules)
+returns c = search (loads, rules)

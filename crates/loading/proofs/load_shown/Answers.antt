@@ -1,13 +1,12 @@
 use Rattle.loading.proofs.Loads.{shows}
-use Rattle.tables.proofs.Known.{sized}
 use Rattle.std.proofs.Common.{rules}
 use Rattle.loading.proofs.load_shown.Goals as goal
 
-pub returns-else-is_for : goal.returns-else-is_for
-returns-else-is_for c = search (shows, sized, rules)
+pub returns-then-not-is_for : goal.returns-then-not-is_for
+returns-then-not-is_for c = search (shows, rules)
 
-pub returns-then-x : goal.returns-then-x
-returns-then-x c = search (shows, sized, rules)
+pub returns-then-own : goal.returns-then-own
+returns-then-own c = search (shows, rules)
 
 pub returns : goal.returns
-returns c = search (shows, sized, rules)
+returns c = search (shows, rules)

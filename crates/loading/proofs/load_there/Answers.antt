@@ -1,12 +1,9 @@
-use Rattle.loading.proofs.Loads.{readings}
+use Rattle.loading.proofs.Loads.{load-unread, loads_read, read-stored}
 use Rattle.std.proofs.Common.{rules}
 use Rattle.loading.proofs.load_there.Goals as goal
 
-pub returns-then-refusal_number-ne0 : goal.returns-then-refusal_number-ne0
-returns-then-refusal_number-ne0 c = search (readings, rules)
+pub returns-in-Ok : goal.returns-in-Ok
+returns-in-Ok c = search (loads_read, rules)
 
-pub load_shown-requires : goal.load_shown-requires
-load_shown-requires c = search (readings, rules)
-
-pub returns : goal.returns
-returns c = search (readings, rules)
+pub returns-in-Err : goal.returns-in-Err
+returns-in-Err c = load-unread _ _ _ _ (search rules) (search rules) _ c.in-Err.ensures c.refused.ensures

@@ -4,7 +4,7 @@ use Rattle.std.proofs.Common.{rules}
 use Rattle.losses.proofs.relapse_records.Goals as goal
 
 pub loop-i-init : goal.loop-i-init
-loop-i-init c = search (records-lost, records-length, rules)
+loop-i-init c = search (records-lost, rules)
 
 pub loop-i-preserved : goal.loop-i-preserved
 loop-i-preserved c = search (records-lost, records-length, rules)

@@ -1,10 +1,6 @@
-use Prim.Native.Nat.{◌-◌, ◌≤◌}
 use Rattle.lists.proofs.Mapped.{Mapping}
 use Rattle.losses.proofs.Loses.{leaves}
 use Rattle.losses.proofs.relapse_records.Given as goal
 
 abbrev pub invariant-loop-i : goal.invariant-loop-i
-invariant-loop-i l = (l.i ≤ l.count) × Mapping (leaves l.loss l.p) l.l.items l.i l.items
-
-abbrev pub decreases-loop-i : goal.decreases-loop-i
-decreases-loop-i l = l.count - l.i
+invariant-loop-i l = Mapping (leaves l.loss l.p) l.l.items l.i l.items

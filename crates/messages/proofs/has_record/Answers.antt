@@ -1,13 +1,8 @@
-use Rattle.lists.proofs.Loops.{anys}
-use Rattle.tables.proofs.Known.{records-fit}
-use Rattle.std.proofs.Common.{rules}
+use Rattle.std.proofs.Common.{rules, tests}
+use Rattle.std.proofs.lemmas.Iterator.{YieldsList-from_slice}
+use Rattle.lists.proofs.Library.{any_of}
+use Rattle.protocol.specs.Order.{sent_as}
 use Rattle.messages.proofs.has_record.Goals as goal
 
-pub returns-then-is_sent_as : goal.returns-then-is_sent_as
-returns-then-is_sent_as c = search (anys, records-fit, rules)
-
-pub loop-i-preserved : goal.loop-i-preserved
-loop-i-preserved c = search (anys, records-fit, rules)
-
 pub returns : goal.returns
-returns c = search (anys, records-fit, rules)
+returns c = any_of (sent_as c.args.x.now c.args.to) _ _ _ c.any.ensures.ran (YieldsList-from_slice c.args.l.now cc) (λ x b q k. search (rules, tests))

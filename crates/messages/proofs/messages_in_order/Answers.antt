@@ -1,13 +1,8 @@
-use Rattle.lists.proofs.Loops.{alls}
-use Rattle.tables.proofs.Known.{messages-fit}
-use Rattle.std.proofs.Common.{rules}
+use Rattle.std.proofs.Common.{rules, tests}
+use Rattle.std.proofs.lemmas.Iterator.{YieldsList-from_slice}
+use Rattle.lists.proofs.Library.{all_of}
+use Rattle.messages.specs.Clauses.{message_fine}
 use Rattle.messages.proofs.messages_in_order.Goals as goal
 
-pub loop-i-preserved : goal.loop-i-preserved
-loop-i-preserved c = search (alls, messages-fit, rules)
-
-pub returns-else-message_in_order : goal.returns-else-message_in_order
-returns-else-message_in_order c = search (alls, messages-fit, rules)
-
 pub returns : goal.returns
-returns c = search (alls, messages-fit, rules)
+returns c = all_of (message_fine c.args.xs.now c.args.ys.now c.args.s c.args.r) _ _ _ c.all.ensures.ran (YieldsList-from_slice c.args.q.now cc) (λ x b q k. search (rules, tests))

@@ -1,7 +1,5 @@
-use mathlib.Core.Path.{refl}
-use Rattle.names.specs.Names.{zero_name}
+use Rattle.names.proofs.Laws.{name-zero}
 use Rattle.names.proofs.zero.Goals as goal
 
 pub returns : goal.returns
-unfolding zero_name
-returns c = refl
+returns c = name-zero c.default.result c.default.ensures.0 c.default.ensures.1

@@ -1,13 +1,8 @@
-use Rattle.lists.proofs.Loops.{alls}
-use Rattle.tables.proofs.Known.{records-fit}
-use Rattle.std.proofs.Common.{rules}
+use Rattle.std.proofs.Common.{rules, tests}
+use Rattle.std.proofs.lemmas.Iterator.{YieldsList-from_slice}
+use Rattle.lists.proofs.Library.{all_of}
+use Rattle.partitions.specs.Clauses.{ready_record}
 use Rattle.partitions.proofs.all_ready.Goals as goal
 
-pub loop-i-preserved : goal.loop-i-preserved
-loop-i-preserved c = search (alls, records-fit, rules)
-
-pub returns-else-is_ready_record : goal.returns-else-is_ready_record
-returns-else-is_ready_record c = search (alls, records-fit, rules)
-
 pub returns : goal.returns
-returns c = search (alls, records-fit, rules)
+returns c = all_of ready_record _ _ _ c.all.ensures.ran (YieldsList-from_slice c.args.l.now cc) (λ x b q k. search (rules, tests))

@@ -3,8 +3,8 @@ use Rattle.tables.proofs.Known.{sized}
 use Rattle.std.proofs.Common.{rules}
 use Rattle.steps.proofs.awaits.Goals as goal
 
-pub returns-else-y : goal.returns-else-y
-returns-else-y c = search (awaitings, sized, rules)
+pub returns-then-own : goal.returns-then-own
+returns-then-own c = search (awaitings, rules)
 
-pub returns : goal.returns
-returns c = search (awaitings, sized, rules)
+pub returns-else-own : goal.returns-else-own
+returns-else-own c = search (awaitings, sized, rules)

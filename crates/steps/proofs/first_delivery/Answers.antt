@@ -4,16 +4,16 @@ use Rattle.std.proofs.Common.{rules}
 use Rattle.steps.proofs.first_delivery.Goals as goal
 
 pub loop-s-init : goal.loop-s-init
-loop-s-init c = search (all-tries, sized, rules)
-
-pub first_delivery_from-a-requires : goal.first_delivery_from-a-requires
-first_delivery_from-a-requires c = search (all-tries, sized, rules)
-
-pub returns-then-moved : goal.returns-then-moved
-returns-then-moved c = search (all-tries, sized, rules)
+loop-s-init c = search (all-tries, rules)
 
 pub loop-s-preserved : goal.loop-s-preserved
 loop-s-preserved c = search (all-tries, sized, rules)
 
 pub returns : goal.returns
 returns c = search (all-tries, sized, rules)
+
+pub first_delivery_from-step-requires : goal.first_delivery_from-step-requires
+first_delivery_from-step-requires c = search (all-tries, sized, rules)
+
+pub returns-then-is_some : goal.returns-then-is_some
+returns-then-is_some c = search (all-tries, sized, rules)

@@ -1,9 +1,10 @@
 use Rattle.stream.proofs.Turning.{finishing}
-use Rattle.std.proofs.Common.{length-take-le, rules}
+use Rattle.std.proofs.Common.{length-take-le}
+use Rattle.std.proofs.Common.{rules}
 use Rattle.stream.proofs.finish.Goals as goal
 
-pub returns-else-has_begun : goal.returns-else-has_begun
-returns-else-has_begun g c = search (finishing, length-take-le, rules)
+pub returns-then-not-has_begun : goal.returns-then-not-has_begun
+returns-then-not-has_begun g c = search (finishing, length-take-le, rules)
 
 pub slice_bounds-write_answers-end : goal.slice_bounds-write_answers-end
 slice_bounds-write_answers-end g c = search (finishing, length-take-le, rules)

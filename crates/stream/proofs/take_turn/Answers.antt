@@ -1,5 +1,6 @@
 use Rattle.stream.proofs.Turning.{place_inside}
-use Rattle.std.proofs.Common.{length-take-le, rules}
+use Rattle.std.proofs.Common.{length-take-le}
+use Rattle.std.proofs.Common.{rules}
 use Rattle.stream.proofs.take_turn.Goals as goal
 
 pub slice_bounds-write_answers-end : goal.slice_bounds-write_answers-end

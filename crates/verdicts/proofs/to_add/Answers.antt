@@ -9,8 +9,8 @@ offset_bounds-l-i c = search (places, found_below, found_in, found-fits, rules)
 pub bounds-l-i : goal.bounds-l-i
 bounds-l-i c = search (places, found_below, found_in, found-fits, rules)
 
-pub returns-in-Nothing : goal.returns-in-Nothing
-returns-in-Nothing c = search (places, found_below, found_in, found-fits, rules)
+pub returns-in-Some : goal.returns-in-Some
+returns-in-Some c = search (places, rules)
 
-pub returns-in-At : goal.returns-in-At
-returns-in-At c = search (places, found_below, found_in, found-fits, rules)
+pub returns-in-None : goal.returns-in-None
+returns-in-None c = search (places, found_below, found_in, found-fits, rules)

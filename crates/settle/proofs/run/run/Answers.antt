@@ -3,14 +3,14 @@ use Rattle.tables.proofs.Known.{sized}
 use Rattle.std.proofs.Common.{rules}
 use Rattle.settle.proofs.run.run.Goals as goal
 
-pub loop-left-init : goal.loop-left-init
-loop-left-init c = search (runs, sized, rules)
+pub loop-taken-init : goal.loop-taken-init
+loop-taken-init c = search (runs, sized, rules)
 
-pub returns-else-moved : goal.returns-else-moved
-returns-else-moved c = search (runs, sized, rules)
+pub loop-taken-preserved : goal.loop-taken-preserved
+loop-taken-preserved c = search (runs, c.in-Some.ensures, rules)
 
-pub loop-left-preserved : goal.loop-left-preserved
-loop-left-preserved c = search (runs, sized, rules)
+pub returns-after-loop-taken : goal.returns-after-loop-taken
+returns-after-loop-taken c = search (runs, rules)
 
-pub returns : goal.returns
-returns c = search (runs, sized, rules)
+pub returns-in_default : goal.returns-in_default
+returns-in_default c = search (runs, c.in_default.ensures, rules)

@@ -1,13 +1,9 @@
-use Rattle.lists.proofs.Loops.{finds}
-use Rattle.tables.proofs.Known.{entries_fit}
-use Rattle.std.proofs.Common.{rules}
+use Rattle.std.proofs.Common.{rules, tests}
+use Rattle.std.proofs.lemmas.Iterator.{YieldsList-from_slice}
+use Rattle.lists.proofs.Library.{first_of}
+use Rattle.protocol.specs.Tables.{entry_bears}
+use Rattle.tables.specs.View.{entries_of}
 use Rattle.tables.proofs.reads.find_entry.Goals as goal
 
-pub returns-then-entry_bears : goal.returns-then-entry_bears
-returns-then-entry_bears c = search (finds, entries_fit, rules)
-
-pub loop-i-preserved : goal.loop-i-preserved
-loop-i-preserved c = search (finds, entries_fit, rules)
-
 pub returns : goal.returns
-returns c = search (finds, entries_fit, rules)
+returns c = first_of (entry_bears c.args.number) _ _ _ c.position.ensures.ran (YieldsList-from_slice (entries_of c.args.l.now) cc) (λ x b q k. search (rules, tests))

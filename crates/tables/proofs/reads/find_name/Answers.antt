@@ -1,13 +1,9 @@
-use Rattle.lists.proofs.Loops.{finds}
-use Rattle.tables.proofs.Known.{entries_fit}
-use Rattle.std.proofs.Common.{rules}
+use Rattle.std.proofs.Common.{rules, tests}
+use Rattle.std.proofs.lemmas.Iterator.{YieldsList-from_slice}
+use Rattle.lists.proofs.Library.{first_of}
+use Rattle.protocol.specs.Tables.{stands_under}
+use Rattle.tables.specs.View.{entries_of}
 use Rattle.tables.proofs.reads.find_name.Goals as goal
 
-pub returns-then-stands_under : goal.returns-then-stands_under
-returns-then-stands_under c = search (finds, entries_fit, rules)
-
-pub loop-i-preserved : goal.loop-i-preserved
-loop-i-preserved c = search (finds, entries_fit, rules)
-
 pub returns : goal.returns
-returns c = search (finds, entries_fit, rules)
+returns c = first_of (stands_under c.args.directory c.args.name) _ _ _ c.position.ensures.ran (YieldsList-from_slice (entries_of c.args.l.now) cc) (λ x b q k. search (rules, tests))

@@ -1,13 +1,9 @@
-use Rattle.lists.proofs.Loops.{finds}
-use Rattle.tables.proofs.Known.{backpointers-fit}
-use Rattle.std.proofs.Common.{rules}
+use Rattle.std.proofs.Common.{rules, tests}
+use Rattle.std.proofs.lemmas.Iterator.{YieldsList-from_slice}
+use Rattle.lists.proofs.Library.{first_of}
+use Rattle.protocol.specs.Deliver.{of_object}
+use Rattle.tables.specs.View.{backpointers_of}
 use Rattle.tables.proofs.reads.find_object.Goals as goal
 
-pub returns-then-of_object : goal.returns-then-of_object
-returns-then-of_object c = search (finds, backpointers-fit, rules)
-
-pub loop-i-preserved : goal.loop-i-preserved
-loop-i-preserved c = search (finds, backpointers-fit, rules)
-
 pub returns : goal.returns
-returns c = search (finds, backpointers-fit, rules)
+returns c = first_of (of_object c.args.object) _ _ _ c.position.ensures.ran (YieldsList-from_slice (backpointers_of c.args.l.now) cc) (λ x b q k. search (rules, tests))

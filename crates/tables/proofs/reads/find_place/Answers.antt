@@ -1,13 +1,9 @@
-use Rattle.lists.proofs.Loops.{finds}
-use Rattle.tables.proofs.Known.{backpointers-fit}
-use Rattle.std.proofs.Common.{rules}
+use Rattle.std.proofs.Common.{rules, tests}
+use Rattle.std.proofs.lemmas.Iterator.{YieldsList-from_slice}
+use Rattle.lists.proofs.Library.{first_of}
+use Rattle.protocol.specs.Tables.{in_place}
+use Rattle.tables.specs.View.{backpointers_of}
 use Rattle.tables.proofs.reads.find_place.Goals as goal
 
-pub returns-then-in_place : goal.returns-then-in_place
-returns-then-in_place c = search (finds, backpointers-fit, rules)
-
-pub loop-i-preserved : goal.loop-i-preserved
-loop-i-preserved c = search (finds, backpointers-fit, rules)
-
 pub returns : goal.returns
-returns c = search (finds, backpointers-fit, rules)
+returns c = first_of (in_place c.args.object c.args.parent c.args.directory c.args.name) _ _ _ c.position.ensures.ran (YieldsList-from_slice (backpointers_of c.args.l.now) cc) (λ x b q k. search (rules, tests))

@@ -1,13 +1,9 @@
-use Rattle.lists.proofs.Loops.{finds}
-use Rattle.tables.proofs.Known.{records-fit}
-use Rattle.std.proofs.Common.{rules}
+use Rattle.std.proofs.Common.{rules, tests}
+use Rattle.std.proofs.lemmas.Iterator.{YieldsList-from_slice}
+use Rattle.lists.proofs.Library.{first_of}
+use Rattle.protocol.specs.Tables.{record_bears}
+use Rattle.tables.specs.View.{records_of}
 use Rattle.tables.proofs.reads.find_record.Goals as goal
 
-pub returns-then-record_bears : goal.returns-then-record_bears
-returns-then-record_bears c = search (finds, records-fit, rules)
-
-pub loop-i-preserved : goal.loop-i-preserved
-loop-i-preserved c = search (finds, records-fit, rules)
-
 pub returns : goal.returns
-returns c = search (finds, records-fit, rules)
+returns c = first_of (record_bears c.args.number) _ _ _ c.position.ensures.ran (YieldsList-from_slice (records_of c.args.l.now) cc) (λ x b q k. search (rules, tests))

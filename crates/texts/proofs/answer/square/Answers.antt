@@ -1,12 +1,13 @@
-use Rattle.texts.proofs.Squares.{squaring}
+use Rattle.texts.proofs.Squares.{row_long, squaring, square-room, square-stored, square-turn}
+use Rattle.std.proofs.Common.{arith}
 use Rattle.std.proofs.Common.{rules}
 use Rattle.texts.proofs.answer.square.Goals as goal
 
-pub loop-i-init : goal.loop-i-init
-loop-i-init c = search (squaring, rules)
+pub loop-row-init : goal.loop-row-init
+loop-row-init c = search (squaring, rules)
 
-pub push_row-x-requires : goal.push_row-x-requires
-push_row-x-requires c = search (squaring, rules)
+pub with_row-x-requires : goal.with_row-x-requires
+with_row-x-requires c = (square-stored _ _ _ _ c.loop-row.invariant, square-room _ _ _ _ c.loop-row.invariant c.loop-row-test.true (omega arith) (row_long _ _ c.well_formed.0 _ _ (omega arith) c.loop-row-test.true))
 
-pub loop-i-preserved : goal.loop-i-preserved
-loop-i-preserved c = search (squaring, rules)
+pub loop-row-preserved : goal.loop-row-preserved
+loop-row-preserved c = square-turn _ _ _ _ c.loop-row.invariant c.loop-row-test.true (omega arith) (row_long _ _ c.well_formed.0 _ _ (omega arith) c.loop-row-test.true) _ c.with_row-x.ensures

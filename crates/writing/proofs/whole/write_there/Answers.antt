@@ -5,16 +5,16 @@ use Rattle.std.proofs.Common.{rules}
 use Rattle.writing.proofs.whole.write_there.Goals as goal
 
 pub size_of-size-requires : goal.size_of-size-requires
-size_of-size-requires c = search (writes, ready-count, sized, rules)
+size_of-size-requires c = search (writes, rules)
 
 pub returns-then-room-size : goal.returns-then-room-size
-returns-then-room-size c = search (writes, ready-count, sized, rules)
+returns-then-room-size c = search (writes, rules)
 
-pub head_of-head-requires : goal.head_of-head-requires
-head_of-head-requires c = search (writes, ready-count, sized, rules)
+pub head_of-requires : goal.head_of-requires
+head_of-requires c = search (writes, ready-count, sized, rules)
 
 pub put_picture-requires : goal.put_picture-requires
 put_picture-requires c = search (writes, ready-count, sized, rules)
 
 pub returns : goal.returns
-returns c = search (writes, ready-count, sized, rules)
+returns c = search (writes, rules)

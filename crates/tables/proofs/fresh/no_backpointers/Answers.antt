@@ -1,6 +1,0 @@
-use Rattle.lists.specs.Lists.{pad}
-use Rattle.tables.proofs.fresh.no_backpointers.Goals as goal
-
-pub returns : goal.returns
-unfolding pad
-returns c = cc

@@ -1,6 +1,0 @@
-use Rattle.lists.specs.Lists.{pad}
-use Rattle.tables.proofs.fresh.no_entries.Goals as goal
-
-pub returns : goal.returns
-unfolding pad
-returns c = cc

@@ -1,8 +1,0 @@
-use mathlib.Core.Path.{refl}
-use Rattle.lists.specs.Lists.{pad}
-use Rattle.rehearsal.specs.Answers.{stored}
-use Rattle.texts.proofs.answer.answered.Goals as goal
-
-pub returns : goal.returns
-unfolding stored pad
-returns c = refl

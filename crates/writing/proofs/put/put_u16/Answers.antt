@@ -1,6 +1,0 @@
-use Rattle.codec.proofs.Puts.{puts}
-use Rattle.std.proofs.Common.{rules}
-use Rattle.writing.proofs.put.put_u16.Goals as goal
-
-pub returns : goal.returns
-returns c = search (puts, rules)
