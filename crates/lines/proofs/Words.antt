@@ -2,7 +2,7 @@
 use mathlib.Core.Bool.{not}
 use mathlib.Core.List.{List, [], ◌∷◌}
 use mathlib.Core.Path.{◌∙◌, ◌≡◌, ap, refl, sym}
-use Prim.Native.Nat.{◌+◌, ◌-◌, ◌<◌, ◌≤◌, suc, ℕ}
+use Prim.Native.Nat.{◌+◌, ◌-◌, ◌<◌, ◌≤◌, suc, zero, ℕ}
 use native.Mathlib.Numerals.{add-one}
 use native.Mathlib.Omega.{arith}
 use lib.Dec.{eqb, leb}
@@ -48,6 +48,12 @@ module _ (c : ℕ) where
   unfolding up_to
   word-is [] = refl
   word-is (b ∷ l) = by_test (eqb b c) (λ t. rw t refl) (λ t. rw t (let h = word-is l in omega arith))
+
+  pub word-near : (n : ℕ) (l : List ℕ) → up_to c (take n l) ≡ take n (up_to c l)
+  unfolding up_to
+  word-near zero l = refl
+  word-near (suc n) [] = refl
+  word-near (suc n) (b ∷ l) = by_test (eqb b c) (λ t. rw t refl) (λ t. rw t (ap (λ (w : List ℕ). b ∷ w) (word-near n l)))
 
   word_end : (l : List ℕ) → length (up_to c l) < length l → get_or l (length (up_to c l)) 0 ≡ c
   unfolding up_to

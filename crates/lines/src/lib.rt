@@ -10,6 +10,9 @@ ghost use Rattle.lines.specs.Places.{digits_in, number_in, number_at, row_found,
 use names::{NAME_BYTES, Name};
 use rehearsal::{BASE, Command, DIGIT_ZERO, LINE_BYTES, SPACE, Verb, WORDS};
 
+// The largest number, 4,294,967,295, has so many digits.
+const NUMBER_DIGITS: usize = 10;
+
 // A row of the table of commands: so many words behind the letter, and which of them is the name, if one is.
 #[derive(Clone, Copy)]
 struct Shape {
@@ -68,11 +71,12 @@ fn number_in(word: &[u8]) -> Option<u32>
     digits_in(word)
 }
 
-// The number that a word is, and the place behind the word.
+// The number that a word is, and the place behind the word. A word longer than any number is none, and is not read to its end.
 pub fn number_at(line: &[u8], from: usize) -> Option<(u32, usize)>
     ensures { result ≡ number_at line.now from }
 {
-    let word = word_at(line, from);
+    let near = &line[..line.len().min(from.saturating_add(NUMBER_DIGITS + 1))];
+    let word = word_at(near, from);
     let value = number_in(word)?;
     Some((value, from + word.len()))
 }
