@@ -3,10 +3,10 @@
 ghost use Rattle.std.specs.Prelude.{◌≡◌, ◌<◌, ◌≤◌};
 ghost use Rattle.protocol.specs.Bounds.{max_messages, max_partitions};
 ghost use Rattle.tables.specs.View.{messages_of, pack_queue};
-ghost use Rattle.answers.specs.Change.{Applies, Sends, Takes, applied, keeps_with, sent_if, taken_if};
+ghost use Rattle.answers.specs.Change.{Applies, Sends, Takes, applied, changes_with, exchanges_with, keeps_with, sent_if, taken_if};
 
-use crate::{Answered, refusing};
-use protocol::{Answer, Message, Refusal};
+use crate::{Answered, accepting, refusing};
+use protocol::{Answer, Message, Refusal, Reply};
 use tables::{MAX_PARTITIONS, Partition, Queue, Tables, writes};
 
 // The partition `at` becomes `partition`; the oldest message from `other` is taken if `takes`, and then the message `sends` goes
@@ -31,6 +31,41 @@ pub fn keeps(p: usize, x: Partition, why: Refusal) -> Change
         other: p,
         takes: false,
         sends: None,
+        partition: x,
+    }
+}
+
+// Partition p becomes x; no message is taken or sent.
+pub fn changes(p: usize, x: Partition, number: u32, reply: Reply) -> Change
+    ensures { result ≡ changes_with p x number reply }
+{
+    Change {
+        answer: accepting(number, reply),
+        at: p,
+        other: p,
+        takes: false,
+        sends: None,
+        partition: x,
+    }
+}
+
+// Partition p becomes x; a message from q is taken, one is sent there, or both.
+pub fn exchanges(
+    p: usize,
+    q: usize,
+    x: Partition,
+    number: u32,
+    takes: bool,
+    sends: Option<Message>,
+) -> Change
+    ensures { result ≡ exchanges_with p q x number takes sends }
+{
+    Change {
+        answer: accepting(number, Reply::None),
+        at: p,
+        other: q,
+        takes,
+        sends,
         partition: x,
     }
 }

@@ -5,10 +5,10 @@ ghost use Rattle.tables.specs.View.{Sized, partition_at, queue_at};
 ghost use Rattle.answers.specs.Called.{Ready, refused_with};
 ghost use Rattle.answers.specs.Change.{Applies, applied, changes_with, exchanges_with};
 
-use crate::accepting;
-use crate::changes::{Change, keeps};
+use crate::changes::{Change, changes, exchanges, keeps};
+use crate::queues::queue;
 use protocol::{Message, Refusal, Reply};
-use tables::{MAX_PARTITIONS, Partition, Queue, Tables};
+use tables::{Partition, Queue, Tables};
 
 // The partition `at` is there, and the tables are in order. They are lent, so that no layer of an event copies them. It is built where
 // that was tested.
@@ -35,7 +35,7 @@ impl<'a> Here<'a> {
         requires { s < max_partitions }
         ensures { result.now ≡ queue_at self.now.tables.now (s * max_partitions + self.now.at) }
     {
-        &self.tables.queues[s * MAX_PARTITIONS + self.at]
+        queue(self.tables, s, self.at)
     }
 
     // A refusal: it stays as it is.
@@ -50,14 +50,7 @@ impl<'a> Here<'a> {
     pub fn changes(&self, x: Partition, number: u32, reply: Reply) -> Change
         ensures { result ≡ changes_with self.now.at x number reply }
     {
-        Change {
-            answer: accepting(number, reply),
-            at: self.at,
-            other: self.at,
-            takes: false,
-            sends: None,
-            partition: x,
-        }
+        changes(self.at, x, number, reply)
     }
 
     // It becomes x; a message from q is taken, one is sent there, or both.
@@ -71,13 +64,6 @@ impl<'a> Here<'a> {
     ) -> Change
         ensures { result ≡ exchanges_with self.now.at q x number takes sends }
     {
-        Change {
-            answer: accepting(number, Reply::None),
-            at: self.at,
-            other: q,
-            takes,
-            sends,
-            partition: x,
-        }
+        exchanges(self.at, q, x, number, takes, sends)
     }
 }

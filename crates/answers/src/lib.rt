@@ -9,6 +9,7 @@ use tables::Tables;
 
 pub mod changes;
 pub mod here;
+pub mod queues;
 
 // What a call answers, and the tables after it.
 #[derive(Clone, Copy)]
