@@ -1,6 +1,7 @@
 -- A change of one partition is what its command does.
 use mathlib.Core.Bool.{Bool, ◌&&◌, false, true}
-use mathlib.Core.Path.{◌∙◌, ◌≡◌, ap, refl, subst}
+use mathlib.Core.List.{[], ◌∷◌}
+use mathlib.Core.Path.{◌∙◌, ◌≡◌, ap, refl, subst, sym}
 use lib.Dec.{ltb}
 use Prim.Native.Nat.{ℕ}
 use Rattle.protocol.specs.Advance.{advance}
@@ -12,7 +13,8 @@ use Rattle.protocol.specs.Faults.{crash, cut, recover}
 use Rattle.protocol.specs.declared.Kind.{Kind}
 use Rattle.protocol.specs.declared.Kind.TheVariants.{Create as CreateKind, Link as LinkKind}
 use Rattle.protocol.specs.declared.Refusal.{Refusal}
-use Rattle.protocol.specs.declared.Refusal.TheVariants.{OutOfRange}
+use Rattle.protocol.specs.Elements.{refusal_number}
+use Rattle.protocol.specs.declared.Refusal.TheVariants.{Accepted, NotUnderstood, OutOfRange}
 use Rattle.protocol.specs.declared.Reply.TheVariants.{None}
 use Rattle.tables.specs.View.{Sized, pack, partition_at, view}
 use Rattle.tables.specs.declared.Partition.{Partition}
@@ -31,14 +33,15 @@ use Rattle.deliveries.proofs.Delivers.{deliver-outside}
 use Rattle.faults.proofs.Faulty.{recover-outside}
 use Rattle.rehearsal.specs.declared.Command.{Command}
 use Rattle.rehearsal.specs.declared.Verb.{Verb}
-use Rattle.rehearsal.specs.declared.Verb.TheVariants.{Advance, Crash, Create, Cut, Deliver, Link, Recover, Unlink}
-use Rattle.rehearsal.specs.Rehearsal.{argument}
-use Rattle.deeds.specs.Deeds.{Changes, Deed, Does, Loses, Queued}
+use Rattle.rehearsal.specs.declared.Verb.TheVariants.{Advance, Crash, Create, Cut, Deliver, Link, NotUnderstood as Unread, Open, Recover, Square, Totals, Unlink}
+use Rattle.rehearsal.specs.Rehearsal.{argument, square, total_numbers}
+use Rattle.deeds.specs.Deeds.{Changes, Deed, Does, Loses, Queued, Says}
 use Rattle.faults.specs.Suffered.{suffered}
-use Rattle.std.specs.Prelude.{Err, Ok, Result}
+use Rattle.std.specs.Prelude.{Err, IfSome, None as NoDeed, Ok, Option, Result, Some}
 use Rattle.losses.specs.Lost.{lost}
 use Rattle.losses.specs.declared.Loss.{Loss}
-use Rattle.sessions.specs.Session.{after_event, responded_to}
+use Rattle.rehearsal.specs.Answers.{Numbers, stored as said_as}
+use Rattle.sessions.specs.Session.{after_event, holding, responded, responded_to}
 use Rattle.sessions.specs.declared.Response.{Response}
 
 -- ---- what is done
@@ -195,6 +198,40 @@ module _ (t u : Tables) (e : u ≡ t) (z : Sized u) (r : Ready u) (y : Change) (
     pub deliver-here : (q : ℕ) → q ≡ argument c 1 → applied u y ≡ stored u (deliver (view u) p q) → Does (Changes y) t (responded_to Deliver c t)
     deliver-here q m g = there (responded_to Deliver c) (deliver-done u z r y h c (at_number (λ s n. deliver (view s) n q) g ∙ ap (λ (n : ℕ). stored u (deliver (view u) (argument c 0) n)) m))
 
+-- the tables are open, and these numbers are said
+module _ (b : Bool) (t : Tables) (c : Command) (e : b ≡ true) (ns : Numbers) where
+  abbrev says : Numbers → Response
+  says n = record { numbers = n; session = holding t }
+
+  said : (w : Verb) → c.verb ≡ w → says ns ≡ responded_to w c t → Does (Says ns) t (responded (record { «open» = b; tables = t }) c)
+  unfolding responded
+  said w v h = let g : says ns ≡ responded_to c.verb c t = h ∙ ap (λ (x : Verb). responded_to x c t) (sym v) in rw e (record { fits = tt; gives = g })
+
+  pub open-said : c.verb ≡ Open → ns ≡ said_as (refusal_number NotUnderstood ∷ 0 ∷ 0 ∷ []) → Does (Says ns) t (responded (record { «open» = b; tables = t }) c)
+  unfolding responded_to
+  open-said v h = said Open v (ap says h)
+
+  pub unread-said : c.verb ≡ Unread → ns ≡ said_as (refusal_number NotUnderstood ∷ 0 ∷ 0 ∷ []) → Does (Says ns) t (responded (record { «open» = b; tables = t }) c)
+  unfolding responded_to
+  unread-said v h = said Unread v (ap says h)
+
+  pub totals-said : c.verb ≡ Totals → ns ≡ said_as (total_numbers (view t)) → Does (Says ns) t (responded (record { «open» = b; tables = t }) c)
+  unfolding responded_to
+  totals-said v h = said Totals v (ap says h)
+
+  pub square-said : c.verb ≡ Square → ns ≡ said_as (refusal_number Accepted ∷ square (view t)) → Does (Says ns) t (responded (record { «open» = b; tables = t }) c)
+  unfolding responded_to
+  square-said v h = said Square v (ap says h)
+
+-- the tables are open, and this is what is done
+pub open-done : (b : Bool) (t : Tables) (c : Command) (o : Option Deed) → b ≡ true → IfSome o (λ d. Does d t (responded_to c.verb c t))
+    → IfSome o (λ d. (b ≡ true) × Does d t (responded (record { «open» = b; tables = t }) c))
+unfolding responded
+open-done b t c NoDeed e h = h
+open-done b t c (Some d) e h = (e, rw e h)
+
 pub ruleset faults-done = (fault-refused, fault-lost)
 
 pub ruleset verbs-done = (verb-done, link-done, create-done)
+
+pub ruleset sayings = (open-said, unread-said, totals-said, square-said)

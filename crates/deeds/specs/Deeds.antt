@@ -1,4 +1,5 @@
--- What a command does where it changes one partition only, or loses something: who holds the tables stores it in their place.
+-- What a command does where it changes one partition only, or loses something: who holds the tables stores it in their place. Or what
+-- it says, where it changes nothing.
 use Rattle.std.specs.Prelude.{[], ◌∷◌, ◌≡◌, ◌<◌, ◌≤◌, get_or}
 use Rattle.protocol.specs.Bounds.{max_messages, max_partitions}
 use Rattle.tables.specs.View.{Sized, messages_of, no_queue, pack, pack_queue, view}
@@ -13,12 +14,13 @@ use Rattle.rehearsal.specs.Answers.{Numbers}
 use Rattle.sessions.specs.Session.{holding}
 use Rattle.sessions.specs.declared.Response.{Response}
 pub use Rattle.deeds.specs.declared.Deed.{Deed}
-pub use Rattle.deeds.specs.declared.Deed.TheVariants.{Changes, Loses}
+pub use Rattle.deeds.specs.declared.Deed.TheVariants.{Changes, Loses, Says}
 
 -- what is said of it
 abbrev pub numbers_said : Deed → Numbers
 numbers_said (Changes x) = stored (answer_numbers x.answer)
 numbers_said (Loses l) = stored (0 ∷ 0 ∷ 0 ∷ [])
+numbers_said (Says ns) = ns
 
 -- what is asked of the queues that a change is stored in
 pub record Queued (t : Tables) (x : Change) : Type 0 where
@@ -32,11 +34,13 @@ pub record Queued (t : Tables) (x : Change) : Type 0 where
 abbrev pub Fits : Deed → Tables → Type 0
 Fits (Changes y) t = (y.at < max_partitions) × (y.other < max_partitions) × Queued t y
 Fits (Loses l) t = Ready t × Sized t
+Fits (Says ns) t = Unit
 
--- the tables with the change stored, or without what is lost
+-- the tables with the change stored, without what is lost, or as they were
 abbrev pub left_by : Deed → Tables → Tables
 left_by (Changes y) t = changed t y
 left_by (Loses l) t = pack (lost l (view t))
+left_by (Says ns) t = t
 
 -- these tables are what the response x leaves, and the numbers are x's
 pub record Does (d : Deed) (t : Tables) (x : Response) : Type 0 where

@@ -1,8 +1,8 @@
-// What a command does where it changes one partition only (link, create, unlink, advance, deliver and recover) or loses something
-// (cut and crash). The tables are not given back: who holds them stores what is done where they stand.
+// What a command does where it changes one partition only (link, create, unlink, advance, deliver and recover), loses something
+// (cut and crash) or only says something. The tables are lent, and not given back: who holds them stores what is done where they stand.
 #![tactic(auto)]
 
-ghost use Rattle.std.specs.Prelude.{IfSome, MatchOption, false, ltb, ◌≡◌};
+ghost use Rattle.std.specs.Prelude.{IfSome, MatchOption, false, true, ltb, ◌≡◌};
 ghost use Rattle.protocol.specs.Ask.{ask};
 ghost use Rattle.tables.specs.View.{Sized, view};
 ghost use Rattle.answers.specs.Called.{Ready, refused_with, tested};
@@ -10,7 +10,7 @@ ghost use Rattle.faults.specs.Suffered.{suffered};
 ghost use Rattle.rehearsal.specs.Rehearsal.{argument};
 ghost use Rattle.rehearsal.specs.declared.Verb.TheVariants.{Advance, Crash, Cut, Deliver, Recover, Unlink};
 ghost use Rattle.deeds.specs.Deeds.{Does, numbers_said};
-ghost use Rattle.sessions.specs.Session.{after_event, responded_to};
+ghost use Rattle.sessions.specs.Session.{after_event, responded, responded_to};
 
 use answers::changes::{Change, keeps};
 use answers::here::Here;
@@ -23,11 +23,12 @@ use sessions::numbers_of;
 use tables::Tables;
 use texts::answer;
 
-// What a command does: a change is stored, or something is lost.
+// What a command does: a change is stored, something is lost, or nothing is done and this is said.
 #[derive(Clone, Copy)]
 pub enum Deed {
     Changes(Change),
     Loses(Loss),
+    Says(Numbers),
 }
 
 // What is said of it: what is lost is lost with no number and no reply.
@@ -37,6 +38,7 @@ pub fn numbers_said(d: Deed) -> Numbers
     match d {
         Deed::Changes(change) => numbers_of(change.answer),
         Deed::Loses(_) => answer::answered(0, 0, 0),
+        Deed::Says(numbers) => numbers,
     }
 }
 
@@ -140,13 +142,13 @@ impl<'a> Ordered<'a> {
     fn cut(self, c: Command) -> Deed
         ensures { let t = self.entry.tables.now in Does result t (responded_to Cut c t) }
     {
-        self.with_fault(faults::cut_fault(*self.tables, c.numbers[0], c.numbers[1]))
+        self.with_fault(faults::cut_fault(self.tables, c.numbers[0], c.numbers[1]))
     }
 
     fn crash(self, c: Command) -> Deed
         ensures { let t = self.entry.tables.now in Does result t (responded_to Crash c t) }
     {
-        self.with_fault(faults::crash_fault(*self.tables, c.numbers[0]))
+        self.with_fault(faults::crash_fault(self.tables, c.numbers[0]))
     }
 
     // ---- any command
@@ -169,20 +171,29 @@ impl<'a> Ordered<'a> {
     }
 }
 
-// The order is tested for these commands only: `respond` tests it for the others.
-fn is_known(verb: Verb) -> bool {
-    !matches!(
-        verb,
-        Verb::Open | Verb::Settle | Verb::Totals | Verb::Square | Verb::NotUnderstood
-    )
-}
-
-// What a command does to tables that are open, if it is one of these.
-pub fn deed_of(t: Tables, c: Command) -> Option<Deed>
-    ensures { IfSome result (λ d. Does d t (responded_to c.verb c t)) }
+// What an event does: the order is tested for the events only.
+fn event_deed(t: &Tables, c: Command) -> Option<Deed>
+    ensures { IfSome result (λ d. Does d t.now (responded_to c.verb c t.now)) }
 {
-    if !is_known(c.verb) || !order::in_order(t) {
+    if !order::lent_in_order(t) {
         return None;
     }
-    Ordered { tables: &t }.done_to(c)
+    Ordered { tables: t }.done_to(c)
+}
+
+// What a command does to tables, if they are open and it is known here: a settling run is not, whose steps `respond` takes.
+pub fn deed_of(running: bool, t: &Tables, c: Command) -> Option<Deed>
+    ensures { IfSome result (λ d. (running ≡ true) × Does d t.now (responded (record { «open» = running; tables = t.now }) c)) }
+{
+    if !running {
+        return None;
+    }
+    match c.verb {
+        Verb::Open => Some(Deed::Says(sessions::unread())),
+        Verb::NotUnderstood => Some(Deed::Says(sessions::unread())),
+        Verb::Totals => Some(Deed::Says(sessions::totals(*t))),
+        Verb::Square => Some(Deed::Says(sessions::square(*t))),
+        Verb::Settle => None,
+        _ => event_deed(t, c),
+    }
 }

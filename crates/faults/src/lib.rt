@@ -16,7 +16,7 @@ use answers::here::Here;
 use answers::{Answered, accepted, is_there, refused};
 use losses::Loss;
 use protocol::{Refusal, Reply};
-use tables::{MAX_PARTITIONS, Partition, Tables};
+use tables::{MAX_PARTITIONS, Partition, Tables, reads};
 
 // ---- cut and crash: what is lost, or why it is refused
 
@@ -52,17 +52,18 @@ fn up(t: &Tables, p: usize) -> Result<(), Refusal>
 }
 
 // What the cut does: it is for who stores it.
-pub fn cut_fault(t: Tables, a: u32, b: u32) -> Result<Loss, Refusal>
-    requires { Ready t }
-    ensures { suffered t result ≡ stored t (cut (view t) a b) }
+pub fn cut_fault(t: &Tables, a: u32, b: u32) -> Result<Loss, Refusal>
+    requires { Ready t.now }
+    ensures { suffered t.now result ≡ stored t.now (cut (view t.now) a b) }
 {
-    let from = there(&t, a)?;
-    let to = there(&t, b)?;
+    reads::are_sized(*t);
+    let from = there(t, a)?;
+    let to = there(t, b)?;
     if from == to {
         return Err(Refusal::CutFromItself);
     }
-    up(&t, from)?;
-    up(&t, to)?;
+    up(t, from)?;
+    up(t, to)?;
     Ok(Loss::Cut(from, to))
 }
 
@@ -70,16 +71,17 @@ pub fn cut_in_order(t: Tables, a: u32, b: u32) -> Answered
     requires { Ready t }
     ensures { result ≡ stored t (cut (view t) a b) }
 {
-    suffer(t, cut_fault(t, a, b))
+    suffer(t, cut_fault(&t, a, b))
 }
 
 // What the crash does: it is for who stores it.
-pub fn crash_fault(t: Tables, p: u32) -> Result<Loss, Refusal>
-    requires { Ready t }
-    ensures { suffered t result ≡ stored t (crash (view t) p) }
+pub fn crash_fault(t: &Tables, p: u32) -> Result<Loss, Refusal>
+    requires { Ready t.now }
+    ensures { suffered t.now result ≡ stored t.now (crash (view t.now) p) }
 {
-    let at = there(&t, p)?;
-    up(&t, at)?;
+    reads::are_sized(*t);
+    let at = there(t, p)?;
+    up(t, at)?;
     Ok(Loss::Crash(at))
 }
 
@@ -87,7 +89,7 @@ pub fn crash_in_order(t: Tables, p: u32) -> Answered
     requires { Ready t }
     ensures { result ≡ stored t (crash (view t) p) }
 {
-    suffer(t, crash_fault(t, p))
+    suffer(t, crash_fault(&t, p))
 }
 
 // ---- recover

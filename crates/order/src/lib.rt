@@ -5,10 +5,10 @@ ghost use Rattle.std.specs.Prelude.{◌&&◌, ◌≡◌, ◌<◌};
 ghost use Rattle.lists.specs.Lists.{below};
 ghost use Rattle.protocol.specs.Bounds.{max_partitions, queue_count};
 ghost use Rattle.protocol.specs.Order.{in_order};
-ghost use Rattle.tables.specs.View.{view, shaped};
+ghost use Rattle.tables.specs.View.{Sized, view, shaped};
 ghost use Rattle.order.specs.Clauses.{lasts_of, pair_at, place_at, place_fine};
 
-use tables::{MAX_PARTITIONS, Partition, QUEUES, Tables};
+use tables::{MAX_PARTITIONS, Partition, QUEUES, Tables, reads};
 
 fn lasts_of(t: &Tables) -> [u32; MAX_PARTITIONS]
     ensures { result ≡ lasts_of t.now.partitions }
@@ -60,9 +60,17 @@ fn pairs_in_order(t: &Tables) -> bool
     (0..QUEUES).all(|k| pair_in_order(t, k))
 }
 
-// The tables go by value here: how long their arrays are and how large their numbers, a proof knows of a value, not of what is lent.
+// The test on tables that are lent: who holds them does not copy them for it. It says of them what their type says.
+pub fn lent_in_order(t: &Tables) -> bool
+    ensures decided { result ≡ (shaped t.now && in_order (view t.now)) }
+    ensures sized { Sized t.now }
+{
+    reads::are_sized(*t);
+    1 <= t.count && t.count <= MAX_PARTITIONS && places_in_order(t) && pairs_in_order(t)
+}
+
 pub fn in_order(t: Tables) -> bool
     ensures { result ≡ (shaped t && in_order (view t)) }
 {
-    1 <= t.count && t.count <= MAX_PARTITIONS && places_in_order(&t) && pairs_in_order(&t)
+    lent_in_order(&t)
 }

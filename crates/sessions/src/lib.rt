@@ -1,9 +1,10 @@
 // What a command answers, and the session after it, by the public events and by settle.
 #![tactic(auto)]
 
-ghost use Rattle.std.specs.Prelude.{◌∷◌, ◌≡◌};
+ghost use Rattle.std.specs.Prelude.{[], ◌∷◌, ◌≡◌};
 ghost use Rattle.protocol.specs.Elements.{refusal_number};
 ghost use Rattle.protocol.specs.Settle.{zero_tally};
+ghost use Rattle.protocol.specs.declared.Refusal.TheVariants.{NotUnderstood as LineNotUnderstood};
 ghost use Rattle.tables.specs.View.{view};
 ghost use Rattle.settle.specs.Settled.{settled};
 ghost use Rattle.rehearsal.specs.Answers.{stored};
@@ -54,12 +55,18 @@ fn holding(numbers: Numbers, tables: Tables) -> Response
     }
 }
 
+// What is said of a line that is not read.
+pub fn unread() -> Numbers
+    ensures { result ≡ stored (refusal_number LineNotUnderstood ∷ 0 ∷ 0 ∷ []) }
+{
+    answer::answered(numbers::refusal_number(Refusal::NotUnderstood), 0, 0)
+}
+
 fn not_read(session: Session) -> Response
     ensures { result ≡ not_read session }
 {
-    let refusal = numbers::refusal_number(Refusal::NotUnderstood);
     Response {
-        numbers: answer::answered(refusal, 0, 0),
+        numbers: unread(),
         session,
     }
 }
@@ -115,20 +122,22 @@ fn on_unread(t: Tables) -> Response
     })
 }
 
-fn totals(t: Tables) -> Numbers
+pub fn totals(t: Tables) -> Numbers
     ensures { result ≡ stored (total_numbers (view t)) }
 {
     let sums = counts::totals_of(t);
     answer::totals(sums.entries, sums.backpointers, sums.records, sums.messages)
 }
 
-fn square(t: Tables) -> Numbers
+pub fn square(t: Tables) -> Numbers
     ensures { result ≡ stored (refusal_number Refusal.Accepted ∷ square (view t)) }
 {
     answer::square(counts::lengths_of(t), t.count)
 }
 
-// An answer with its tables is long: one variable for all the events, and a function for each of the other arms.
+// An answer with its tables is long: one variable for all the events, and a function for each of the other arms. Its frame has room for
+// any of them, so it stays out of line: who answers line after line does not pay for it where it is not called.
+#[inline(never)]
 fn respond_to(c: Command, t: Tables) -> Response
     ensures { result ≡ responded_to c.verb c t }
 {

@@ -1,8 +1,8 @@
 -- The loop over a block: at each place, what is left to be answered, and what stands in the room.
 use Rattle.std.proofs.Common.{◌≡◌, ℕ, ◌+◌, ◌*◌, ◌<◌, ◌≤◌, true, false, eqb, List, [], ◌∷◌, ◌++◌, length, get_or, drop, sym, refl, ap, ◌∙◌, append_assoc, append-nil, add-one, arith, drop_of_length-le, drop-cons, eq-eqb, ne_eqb}
 use Rattle.rehearsal.specs.Line.{command_of}
-use Rattle.sessions.specs.Session.{responded, responded_to}
-use Rattle.std.specs.Prelude.{Bool, IfSome, None, Option, Some}
+use Rattle.sessions.specs.Session.{responded}
+use Rattle.std.specs.Prelude.{Bool}
 use Rattle.rehearsal.specs.Text.{Adds, line_end, line_text}
 use Rattle.rehearsal.specs.Answers.{numbers_of}
 use Rattle.sessions.specs.declared.Response.{Response}
@@ -117,10 +117,3 @@ module _ (x₀ : Midway Session) (block before : List ℕ) (x : Midway Session) 
       let r : Response = record { numbers = ns; session = record { «open» = o; tables = u } } in
       feed-response r
       ((λ j. record { numbers = e j; session = record { «open» = g.0 j; tables = k j } }) ∙ g.1.gives ∙ ap (λ (y : Session). responded y c) (sym es)) w q
-
--- ---- `deed_in`
-pub deed-responded : (b : Bool) (t : Tables) (c : Command) (o : Option Deed) → b ≡ true → IfSome o (λ d. Does d t (responded_to c.verb c t))
-    → IfSome o (λ d. (b ≡ true) × Does d t (responded (record { «open» = b; tables = t }) c))
-unfolding responded
-deed-responded b t c None e h = h
-deed-responded b t c (Some d) e h = (e, rw e h)

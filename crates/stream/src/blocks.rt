@@ -1,11 +1,10 @@
 // The input in blocks of any size: bytes are gathered to lines, and each line is answered where it ends.
-ghost use Rattle.std.specs.Prelude.{IfSome, true, ◌≡◌, ◌+◌, ◌*◌, ◌<◌, ◌≤◌, [], ◌∷◌, length};
+ghost use Rattle.std.specs.Prelude.{◌≡◌, ◌+◌, ◌*◌, ◌<◌, ◌≤◌, [], ◌∷◌, length};
 ghost use Rattle.lists.specs.Lists.{is_some};
 ghost use Rattle.rehearsal.specs.Answers.{numbers_of};
 ghost use Rattle.rehearsal.specs.Line.{command_of};
 ghost use Rattle.rehearsal.specs.Text.{Adds, line_text};
-ghost use Rattle.sessions.specs.Session.{responded};
-ghost use Rattle.deeds.specs.Deeds.{Does, Fits, left_by};
+ghost use Rattle.deeds.specs.Deeds.{Fits, left_by};
 ghost use Rattle.feeding.specs.Feed.{begun_with, fed, longest_answer, next_line, said};
 ghost use Rattle.feeding.specs.Sessions.{at_start, sessions};
 ghost use Rattle.stream.specs.Keeping.{line_of, midway_of};
@@ -125,21 +124,13 @@ fn carry_out(t: &mut Tables, deed: Deed)
     match deed {
         Deed::Changes(change) => store(t, change),
         Deed::Loses(loss) => lose(t, loss),
+        Deed::Says(_) => {}
     }
-}
-
-// What a command does that is done where the tables stand, once they are open.
-fn deed_in(running: bool, t: Tables, c: Command) -> Option<Deed>
-    ensures { IfSome result (λ d. (running ≡ true) × Does d t (responded (record { «open» = running; tables = t }) c)) }
-{
-    if !running {
-        return None;
-    }
-    deeds::deed_of(t, c)
 }
 
 // Every byte of a block, in order; the answers stand in the lent room from its start, and end at the place that is given back. The
-// tables stay a variable of this function: to hand them on from behind a reference, or back, would take longer than the command.
+// tables stay a variable of this function, lent to the deed and stored into: to hand them on by value, or back, takes longer than the
+// command.
 pub fn feed(k: &mut Kept, block: &[u8], out: &mut [u8]) -> usize
     requires { length block.now * longest_answer ≤ length out.old }
     ensures kept_value { midway_of k.new ≡ fed sessions (midway_of k.old) block.now }
@@ -158,7 +149,7 @@ pub fn feed(k: &mut Kept, block: &[u8], out: &mut [u8]) -> usize
         lines = next_line(lines);
         let command = command_in(line);
         line = no_bytes();
-        if let Some(deed) = deed_in(running, tables, command) {
+        if let Some(deed) = deeds::deed_of(running, &tables, command) {
             carry_out(&mut tables, deed);
             place = put_answer(out, place, lines, deeds::numbers_said(deed));
         } else {

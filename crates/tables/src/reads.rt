@@ -5,11 +5,19 @@ ghost use Rattle.lists.specs.Lists.{first_at, keep, is_none};
 ghost use Rattle.protocol.specs.Bounds.{max_records};
 ghost use Rattle.protocol.specs.Tables.{entry_bears, record_bears, stands_under, in_place, unentered};
 ghost use Rattle.protocol.specs.Deliver.{is_exactly, of_object};
-ghost use Rattle.tables.specs.View.{entries_of, backpointers_of, records_of};
+ghost use Rattle.tables.specs.View.{Sized, entries_of, backpointers_of, records_of};
 
-use crate::{Backpointers, Entries, Records, elements};
+use crate::{Backpointers, Entries, Records, Tables, elements};
 use names::Name;
 use protocol::{Backpointer, Entry, Message, Record};
+
+// ---- the tables whole
+
+// How long their arrays are and how large their numbers, a proof knows of a value, not of what is lent: so it is said once of the value.
+// It does nothing.
+pub fn are_sized(t: Tables)
+    ensures { Sized t }
+{}
 
 // ---- tests of one element
 
@@ -28,21 +36,23 @@ fn record_bears(r: &Record, number: u32) -> bool
 fn stands_under(e: &Entry, directory: u8, name: Name) -> bool
     ensures { result ≡ stands_under directory name e.now }
 {
-    (e.directory == directory) & names::same(e.name, name)
+    e.directory == directory && names::same(e.name, name)
 }
 
 pub fn in_place(b: &Backpointer, object: u8, parent: u8, directory: u8, name: Name) -> bool
     ensures { result ≡ in_place object parent directory name b.now }
 {
-    (b.object == object)
-        & ((b.parent == parent) & ((b.directory == directory) & names::same(b.name, name)))
+    b.object == object
+        && b.parent == parent
+        && b.directory == directory
+        && names::same(b.name, name)
 }
 
 // The back-pointer that a request from partition s is about, its number too.
 fn is_exactly(b: &Backpointer, s: u8, x: &Message) -> bool
     ensures { result ≡ is_exactly s x.now b.now }
 {
-    (b.number == x.number) & in_place(b, x.object, s, x.directory, x.name)
+    b.number == x.number && in_place(b, x.object, s, x.directory, x.name)
 }
 
 fn of_object(b: &Backpointer, object: u8) -> bool

@@ -11,7 +11,7 @@ pub loop-b-preserved-then-b-ne-LF : goal.loop-b-preserved-then-b-ne-LF
 loop-b-preserved-then-b-ne-LF c = feed-byte _ _ _ _ _ _ _ c.loop-b.invariant c.loop-b-test.true c.if-b-ne-LF.true _ c.with_byte-line.ensures
 
 pub loop-b-preserved : goal.loop-b-preserved
-loop-b-preserved c = elim c.match-deed_in.branch [
+loop-b-preserved c = elim c.match-deed_of.branch [
   | in-Some w ↦
       rw (w.out-is, w.running-is, w.tables-is, w.place-is)
       (feed-deed _ _ _ _ _ _ _ c.loop-b.invariant c.loop-b-test.true c.if-b-ne-LF.false _ c.next_line-lines.ensures _ c.command_in-command.ensures _ c.no_bytes-line.ensures _ _
