@@ -1,8 +1,10 @@
 // Tests of the elements, and what stands in a free slot.
-ghost use Rattle.std.specs.Prelude.{Bool, ◌≡◌};
+ghost use Rattle.std.specs.Prelude.{Bool, ◌&&◌, ◌≡◌, eqb};
+ghost use Rattle.names.specs.Names.{same_name, zero_name};
 ghost use Rattle.protocol.specs.Elements.{kind_number, same_kind, adds, is_ready, is_sent, is_request, stage_fits, body_fits};
 ghost use Rattle.tables.specs.Slots.{zero_entry, zero_backpointer, zero_record, zero_message, free_entry, free_backpointer, free_record, free_message};
 
+use names::Name;
 use protocol::{Backpointer, Body, Entry, Kind, Message, Record, Stage};
 
 // An element of a list of the tables: what a free slot of such a list holds, and whether a slot is free.
@@ -18,6 +20,15 @@ pub trait Slot: Copy {
         ensures { result ≡ free self.now };
 }
 
+// Whether these are the parts of a free slot. With no exit between them, since most slots that are asked about are free; and not by the
+// derived `==`, which looks at one byte of the name after the other.
+fn are_free(number: u32, directory: u8, partition: u8, object: u8, name: Name) -> bool
+    ensures { result ≡ (eqb number 0 && (eqb directory 0 && (eqb partition 0 && (eqb object 0 && same_name name zero_name)))) }
+{
+    (number == 0)
+        & ((directory == 0) & ((partition == 0) & ((object == 0) & names::is_unnamed(name))))
+}
+
 impl Slot for Entry {
     ghost zero = { zero_entry };
 
@@ -28,7 +39,13 @@ impl Slot for Entry {
     }
 
     fn is_free(&self) -> bool {
-        *self == Entry::zero()
+        are_free(
+            self.number,
+            self.directory,
+            self.partition,
+            self.object,
+            self.name,
+        )
     }
 }
 
@@ -42,7 +59,13 @@ impl Slot for Backpointer {
     }
 
     fn is_free(&self) -> bool {
-        *self == Backpointer::zero()
+        are_free(
+            self.number,
+            self.directory,
+            self.parent,
+            self.object,
+            self.name,
+        )
     }
 }
 
@@ -56,7 +79,13 @@ impl Slot for Record {
     }
 
     fn is_free(&self) -> bool {
-        *self == Record::zero()
+        are_free(
+            self.number,
+            self.directory,
+            self.partition,
+            self.object,
+            self.name,
+        ) & ((kind_number(self.kind) == 1) & is_ready(self.stage))
     }
 }
 
@@ -70,7 +99,13 @@ impl Slot for Message {
     }
 
     fn is_free(&self) -> bool {
-        *self == Message::zero()
+        are_free(
+            self.number,
+            self.directory,
+            self.partition,
+            self.object,
+            self.name,
+        ) & ((kind_number(self.kind) == 1) & is_request(self.body))
     }
 }
 
